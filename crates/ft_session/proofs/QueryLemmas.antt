@@ -28,7 +28,8 @@ reply_at says state (x ∷ xs) (suc number) c h = reply_at says (step says state
 pub query : (says : Judgement) (session : List ℕ) (number : ℕ) (text : List ℕ) (p : PathForm)
     → Some (Query text) ≡ slice_get (commands session) number → Ok p ≡ path_read text → IsAnswered (state_before says session number) p
     → slice_get (replies_to says session) number ≡ Some (Nodes (flat_map
-    (λ (d : Named). map (element_line d.name d.root) (selected_in says (state_before says session number).lists p d.root))
+    (λ (d : Named). map (element_line d.name d.root)
+    (selected_in says (state_before says session number).abbreviations (state_before says session number).lists p d.root))
     (documents p.path.root (state_before says session number).documents)))
 unfolding replies_to
 query says session number text p there read all =

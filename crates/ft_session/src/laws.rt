@@ -15,11 +15,12 @@ ghost use Rattle.ft_session.specs.Output.{replies_to};
 ghost use Rattle.ft_session.specs.Queries.{state_before};
 
 /// Where a session's command of some number is a query whose path can be read, and all that it names is there, the reply of that number names, document by
-/// document in the order of loading, the elements that the path selects.
+/// document in the order of loading, the elements that the path selects under the abbreviations of then.
 pub fn query_law()
     ensures { (says : Judgement) (session : List ℕ) (number : ℕ) (text : List ℕ) (p : PathForm)
         → Some (Query text) ≡ slice_get (commands session) number → Ok p ≡ path_read text → IsAnswered (state_before says session number) p
         → slice_get (replies_to says session) number ≡ Some (Nodes (flat_map
-        (λ (d : Named). map (element_line d.name d.root) (selected_in says (state_before says session number).lists p d.root))
+        (λ (d : Named). map (element_line d.name d.root)
+        (selected_in says (state_before says session number).abbreviations (state_before says session number).lists p d.root))
         (documents p.path.root (state_before says session number).documents))) }
 {}

@@ -53,20 +53,20 @@ through (Doc name) f (d ∷ ds) =
     ∙ (elim (bytes_eq name d.name) as (λ b. cond b (f d) 0 + sum_by g ds ≡ sum_by f (cond b (d ∷ documents (Doc name) ds) (documents (Doc name) ds)))
     [ true ↦ ap (λ n. f d + n) rest ∙ sym (sum_by-cons f d (documents (Doc name) ds)) | false ↦ omega (arith, rest) ])
 
-pub prices-led : (says : Judgement) (path : PlannedPath) (runs : List RunMeaning) (ds : List Named)
-    → prices_through says path runs ds ≡ prices_in says path runs (documents path.root.now ds)
-prices-led says path runs ds = through path.root.now (λ d. planned_price says path runs d.root) ds
+pub prices-led : (says : Judgement) (abbreviations : List (List ℕ)) (path : PlannedPath) (runs : List RunMeaning) (ds : List Named)
+    → prices_through says abbreviations path runs ds ≡ prices_in says abbreviations path runs (documents path.root.now ds)
+prices-led says abbreviations path runs ds = through path.root.now (λ d. planned_price says abbreviations path runs d.root) ds
 
 -- the references name elements, and their places are those to which the path leads
-module _ (says : Judgement) (path : PlannedPath) where
-  pub led-targets : (entries : List (List ℕ × LoadedTree)) (refs : List (List NodeRef)) → AreLedToEach says path entries refs → AreTargets (trees_of entries) refs
+module _ (says : Judgement) (abbreviations : List (List ℕ)) (path : PlannedPath) where
+  pub led-targets : (entries : List (List ℕ × LoadedTree)) (refs : List (List NodeRef)) → AreLedToEach says abbreviations path entries refs → AreTargets (trees_of entries) refs
   led-targets [] [] h = tt
   led-targets [] (r ∷ rs) h = absurd h
   led-targets (e ∷ es) [] h = absurd h
   led-targets (e ∷ es) (r ∷ rs) h = (h.0.there, led-targets es rs h.1)
 
-  pub led-places : (entries : List (List ℕ × LoadedTree)) (refs : List (List NodeRef)) → AreLedToEach says path entries refs
-      → places_of_targets (trees_of entries) refs ≡ map (planned_places says path) (map to_document entries)
+  pub led-places : (entries : List (List ℕ × LoadedTree)) (refs : List (List NodeRef)) → AreLedToEach says abbreviations path entries refs
+      → places_of_targets (trees_of entries) refs ≡ map (planned_places says abbreviations path) (map to_document entries)
   led-places [] [] h = refl
   led-places [] (r ∷ rs) h = absurd h
   led-places (e ∷ es) [] h = absurd h
@@ -74,18 +74,19 @@ module _ (says : Judgement) (path : PlannedPath) where
 
 -- what plans select is what the path selects
 pub planned-places : (says : Judgement) (state : State) (p : PathForm) (planned : PlannedPath) → IsPlanOf state.lists p planned
-    → map (planned_places says planned) state.documents ≡ places_selected says state p
+    → map (planned_places says state.abbreviations planned) state.documents ≡ places_selected says state p
 planned-places says state p planned plan = λ i. map (λ (d : Named). cond (leads_through (plan.root i) d.name)
-    (map (λ (e : Element). e.place) (selected (planned-as says state.lists planned.plans.now (selections_of p) plan.plans i) (plan.steps i) d.root)) []) state.documents
+    (map (λ (e : Element). e.place) (selected (planned-as says state.abbreviations state.lists planned.plans.now (selections_of p) plan.plans i) (plan.steps i) d.root)) []) state.documents
 
 -- the elements that were selected in a document through which the path leads
-pub led-here : (says : Judgement) (path : PlannedPath) (name : List ℕ) (document : LoadedTree) (refs : List NodeRef) → All (IsElement document.tree.root) refs
-    → map (element_of document.tree.root) refs ≡ planned_in says path (plain document.tree.root) → leads_through path.root.now name ≡ true → AreLedTo says path (name, document) refs
-led-here says path name document refs there elements leads = record {
+pub led-here : (says : Judgement) (abbreviations : List (List ℕ)) (path : PlannedPath) (name : List ℕ) (document : LoadedTree) (refs : List NodeRef) → All (IsElement document.tree.root) refs
+    → map (element_of document.tree.root) refs ≡ planned_in says abbreviations path (plain document.tree.root) → leads_through path.root.now name ≡ true
+    → AreLedTo says abbreviations path (name, document) refs
+led-here says abbreviations path name document refs there elements leads = record {
   there = there;
   places = sym (map-map (λ (e : Element). e.place) (element_of document.tree.root) refs)
       ∙ (ap (map (λ (e : Element). e.place)) elements
-      ∙ sym (ap (λ t. cond t (map (λ (e : Element). e.place) (planned_in says path (plain document.tree.root))) []) leads));
+      ∙ sym (ap (λ t. cond t (map (λ (e : Element). e.place) (planned_in says abbreviations path (plain document.tree.root))) []) leads));
 }
 
 -- the root is among elements where one of their places is empty
@@ -121,15 +122,15 @@ once-holds One how count n rooted content accepted once same = ap (λ t. t || is
         let never : ⊥ = cc in absurd never
 
 -- the same of what was chosen in the documents of a collection
-module _ (says : Judgement) (path : PlannedPath) (entries : List (List ℕ × LoadedTree)) (trees : List (ℕ × Numbered)) where
-  pub chosen-targets : trees_of entries ≡ trees → (result : Result Chosen Memory) → IfOk result (λ chosen. AreLedToEach says path entries chosen.refs)
+module _ (says : Judgement) (abbreviations : List (List ℕ)) (path : PlannedPath) (entries : List (List ℕ × LoadedTree)) (trees : List (ℕ × Numbered)) where
+  pub chosen-targets : trees_of entries ≡ trees → (result : Result Chosen Memory) → IfOk result (λ chosen. AreLedToEach says abbreviations path entries chosen.refs)
       → IfOk result (λ chosen. AreTargets trees chosen.refs)
-  chosen-targets same (Ok chosen) h = subst (λ ts. AreTargets ts chosen.refs) same (led-targets says path entries chosen.refs h)
+  chosen-targets same (Ok chosen) h = subst (λ ts. AreTargets ts chosen.refs) same (led-targets says abbreviations path entries chosen.refs h)
   chosen-targets same (Err e) h = tt
 
   pub chosen-places : (ds : List Named) → trees_of entries ≡ trees → map to_document entries ≡ ds → (result : Result Chosen Memory)
-      → IfOk result (λ chosen. AreLedToEach says path entries chosen.refs)
-      → IfOk result (λ chosen. places_of_targets trees chosen.refs ≡ map (planned_places says path) ds)
+      → IfOk result (λ chosen. AreLedToEach says abbreviations path entries chosen.refs)
+      → IfOk result (λ chosen. places_of_targets trees chosen.refs ≡ map (planned_places says abbreviations path) ds)
   chosen-places ds same docs (Ok chosen) h =
-      ap (λ ts. places_of_targets ts chosen.refs) (sym same) ∙ (led-places says path entries chosen.refs h ∙ ap (map (planned_places says path)) docs)
+      ap (λ ts. places_of_targets ts chosen.refs) (sym same) ∙ (led-places says abbreviations path entries chosen.refs h ∙ ap (map (planned_places says abbreviations path)) docs)
   chosen-places ds same docs (Err e) h = tt

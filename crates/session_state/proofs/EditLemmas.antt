@@ -25,7 +25,7 @@ use Rattle.session_state.proofs.PathLemmas.{all-found}
 
 -- the state with what is prepared after a command
 abbrev pub with_prepared_in : State → Preparation → State
-with_prepared_in state q = record { documents = state.documents; lists = q.lists; marks = state.marks; kept = q.kept }
+with_prepared_in state q = record { documents = state.documents; abbreviations = state.abbreviations; lists = q.lists; marks = state.marks; kept = q.kept }
 
 abbrev pub replied : State → Reply → State × Reply
 replied state reply = (state, reply)
@@ -47,7 +47,7 @@ module _ (says : Judgement) (state : State) (targets : Targets) (edit : Edit) (t
       ∙ ap (λ o. stays_if_refused state o (edit_selected says state targets edit p)) (all-found state p document lists)
 
   pub touched-ready : (planned : PlannedPath) → IsPlanOf state.lists p planned
-      → touched_placed state.documents edit (map (planned_places says planned) state.documents) (target_refusal targets edit (map (planned_places says planned) state.documents))
+      → touched_placed state.documents edit (map (planned_places says state.abbreviations planned) state.documents) (target_refusal targets edit (map (planned_places says state.abbreviations planned) state.documents))
       ≡ touched_path says state targets edit text
   touched-ready planned plan =
       ap (λ places. touched_placed state.documents edit places (target_refusal targets edit places)) (planned-places says state p planned plan)
@@ -61,7 +61,7 @@ module _ (says : Judgement) (state : State) (targets : Targets) (edit : Edit) (t
       → missing_document p.path.root state.documents ≡ None → missing_list state.lists (selections_of p) ≡ None
       → (answered : Result Reply Memory) (documents : List Named) (q : Preparation) (texts : List (List ℕ)) → texts ≡ selection_texts text p
       → IfOk answered (λ reply. (documents, reply)
-      ≡ edit_placed state.documents edit (map (planned_places says planned) state.documents) (target_refusal targets edit (map (planned_places says planned) state.documents)))
+      ≡ edit_placed state.documents edit (map (planned_places says state.abbreviations planned) state.documents) (target_refusal targets edit (map (planned_places says state.abbreviations planned) state.documents)))
       → IfOk answered (λ reply. q ≡ kept_by texts reply (prepared_of state))
       → IfOk answered (λ reply. replied (with_prepared_in (record state { documents = documents }) q) reply ≡ keep_plans text (edit_path says state targets edit text))
   edit-kept planned plan document lists (Ok reply) documents q texts same edited kept =

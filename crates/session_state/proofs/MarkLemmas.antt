@@ -49,14 +49,14 @@ without-removed name (e ∷ es) =
     [ true ↦ refl | false ↦ ap (λ ms. to_mark e ∷ ms) (without-removed name es) ]
 
 -- the two tests decide whether a mark is set
-pub put-by : (entries : List Entry) (name asked : List ℕ) (documents : List Named) (taken no_room : Bool) → name ≡ asked
+pub put-by : (entries : List Entry) (name asked : List ℕ) (documents : List Named) (abbreviations : List (List ℕ)) (taken no_room : Bool) → name ≡ asked
     → is_some (lookup (bytes_eq name) entries) ≡ taken → nat_le max_marks (length entries) ≡ no_room
-    → mark_put (marks_of entries) asked documents
+    → mark_put (marks_of entries) asked documents abbreviations
     ≡ cond taken (marks_of entries, Refused (refusal.NameTaken asked))
-    (cond no_room (marks_of entries, Refused (refusal.Full full.Marks)) (marks_of entries ++ record { name = asked; documents = documents } ∷ [], Done))
-put-by entries name asked documents taken no_room same found long =
+    (cond no_room (marks_of entries, Refused (refusal.Full full.Marks)) (marks_of entries ++ record { name = asked; documents = documents; abbreviations = abbreviations } ∷ [], Done))
+put-by entries name asked documents abbreviations taken no_room same found long =
     let marks = marks_of entries in
-    let more : List Mark × Reply = (marks ++ record { name = asked; documents = documents } ∷ [], Done) in
+    let more : List Mark × Reply = (marks ++ record { name = asked; documents = documents; abbreviations = abbreviations } ∷ [], Done) in
     let has : has_mark asked marks ≡ taken = ap (λ n. has_mark n marks) (sym same) ∙ (has_mark-lookup name entries ∙ found) in
     let count : nat_le max_marks (length marks) ≡ no_room = ap (nat_le max_marks) (length-map entries to_mark) ∙ long in
     ap (λ t. cond t (marks, Refused (refusal.NameTaken asked)) (cond (nat_le max_marks (length marks)) (marks, Refused (refusal.Full full.Marks)) more)) has
@@ -73,6 +73,7 @@ pub record IsFound (name : List ℕ) (entries : List Entry) (found : Indexed) : 
   pub mark : Mark
   pub named : mark_named name (marks_of entries) ≡ Some mark
   pub documents : mark.documents ≡ found.documents
+  pub abbreviations : mark.abbreviations ≡ found.abbreviations
   pub version : version_of_mark name (marks_of entries) (versions_of entries) ≡ found.version
 
 pub found-mark : (name : List ℕ) (entries : List Entry) (found : Indexed) → lookup (bytes_eq name) entries ≡ Some found → IsFound name entries found
@@ -87,6 +88,7 @@ found-mark name (e ∷ es) found h = by (λ g. found-mark name es found g) (byte
           mark = to_mark e;
           named = ap (λ t. cond t (Some (to_mark e)) (mark_named name (marks_of es))) is;
           documents = ap (λ (i : Indexed). i.documents) same;
+          abbreviations = ap (λ (i : Indexed). i.abbreviations) same;
           version = ap (λ t. cond t e.1.version (version_of_mark name (marks_of es) (versions_of es))) is ∙ ap (λ (i : Indexed). i.version) same;
         }
     by rest false is =
@@ -95,6 +97,7 @@ found-mark name (e ∷ es) found h = by (λ g. found-mark name es found g) (byte
           mark = further.mark;
           named = ap (λ t. cond t (Some (to_mark e)) (mark_named name (marks_of es))) is ∙ further.named;
           documents = further.documents;
+          abbreviations = further.abbreviations;
           version = ap (λ t. cond t e.1.version (version_of_mark name (marks_of es) (versions_of es))) is ∙ further.version;
         }
 

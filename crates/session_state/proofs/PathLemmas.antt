@@ -59,11 +59,12 @@ pub missing-document : (root : PathRoot) (name : List ℕ) (documents : List Nam
 missing-document root name documents there is has = ap (λ r. missing_document r documents) is ∙ ap (λ t. cond t None (Some name)) has
 
 -- what each plan says, its selection says
-pub planned-as : (says : Judgement) (lists : NamedLists) (plans : List PlanOf) (forms : List Form) → map meant plans ≡ map (under lists) forms → is_meant says (map meant plans) ≡ satisfies says lists forms
+pub planned-as : (says : Judgement) (abbreviations : List (List ℕ)) (lists : NamedLists) (plans : List PlanOf) (forms : List Form) → map meant plans ≡ map (under lists) forms
+    → is_meant says abbreviations (map meant plans) ≡ satisfies says abbreviations lists forms
 unfolding is_meant satisfies
-planned-as says lists plans forms same = ap (is_meant says) same ∙ (λ i k e. by forms k e i)
+planned-as says abbreviations lists plans forms same = ap (is_meant says abbreviations) same ∙ (λ i k e. by forms k e i)
   where
-    by : (forms : List Form) (k : ℕ) (e : Element) → is_meant says (map (under lists) forms) k e ≡ satisfies says lists forms k e
+    by : (forms : List Form) (k : ℕ) (e : Element) → is_meant says abbreviations (map (under lists) forms) k e ≡ satisfies says abbreviations lists forms k e
     by [] k e = refl
     by (form ∷ forms) zero e = refl
     by (form ∷ forms) (suc k) e = by forms k e
@@ -144,14 +145,15 @@ module _ (document : List ℕ) (root : Numbered) (found : List NodeRef) (element
 
 -- what plans select is what the path selects
 pub planned-lines : (says : Judgement) (state : State) (p : PathForm) (planned : PlannedPath) (shown : Shown) → IsPlanOf state.lists p planned
-    → flat_map (planned_lines says shown planned) (documents planned.root.now state.documents) ≡ lines_for says shown state p
+    → flat_map (planned_lines says state.abbreviations shown planned) (documents planned.root.now state.documents) ≡ lines_for says shown state p
 planned-lines says state p planned shown plan =
-    (λ i. flat_map (λ d. lines_of shown d.name d.root (selected (planned-as says state.lists planned.plans.now (selections_of p) plan.plans i) (plan.steps i) d.root))
+    (λ i. flat_map (λ d. lines_of shown d.name d.root (selected (planned-as says state.abbreviations state.lists planned.plans.now (selections_of p) plan.plans i) (plan.steps i) d.root))
     (documents (plan.root i) state.documents))
 
 -- the prices in one document
-pub prices-one : (says : Judgement) (path : PlannedPath) (runs : List RunMeaning) (d : Named) → prices_in says path runs (d ∷ []) ≡ planned_price says path runs d.root
-prices-one says path runs d = omega (arith, sum_by-cons (λ (x : Named). planned_price says path runs x.root) d [])
+pub prices-one : (says : Judgement) (abbreviations : List (List ℕ)) (path : PlannedPath) (runs : List RunMeaning) (d : Named)
+    → prices_in says abbreviations path runs (d ∷ []) ≡ planned_price says abbreviations path runs d.root
+prices-one says abbreviations path runs d = omega (arith, sum_by-cons (λ (x : Named). planned_price says abbreviations path runs x.root) d [])
 
 -- what the runs of plans cost, their selections cost
 priced-as : (lists : NamedLists) (version : List indexed.Numbered) (p : PathForm) (plans : List PlanOf) → map meant plans ≡ map (under lists) (selections_of p)
@@ -163,11 +165,11 @@ priced-as lists version p plans same =
 
 -- what the tests cost for which plans ask, those cost for which the path asks
 pub planned-prices : (says : Judgement) (held : Held) (p : PathForm) (planned : PlannedPath) → IsPlanOf held.state.lists p planned
-    → prices_in says planned (map (run_over held.version) planned.plans.now) (documents planned.root.now held.state.documents) ≡ path_price says held p
+    → prices_in says held.state.abbreviations planned (map (run_over held.version) planned.plans.now) (documents planned.root.now held.state.documents) ≡ path_price says held p
 planned-prices says held p planned plan =
     let lists = held.state.lists in
     (λ i. sum_by (λ d. total_price (element_price (priced-as lists held.version p planned.plans.now plan.plans i))
-    (selected_tests (planned-as says lists planned.plans.now (selections_of p) plan.plans i) (plan.steps i) d.root)) (documents (plan.root i) held.state.documents))
+    (selected_tests (planned-as says held.state.abbreviations lists planned.plans.now (selections_of p) plan.plans i) (plan.steps i) d.root)) (documents (plan.root i) held.state.documents))
 
 -- what the plans of a path's selections are of, their texts, and that they may be kept
 module _ (lists : NamedLists) (text : List ℕ) (p : PathForm) where

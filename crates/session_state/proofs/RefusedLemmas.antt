@@ -30,6 +30,8 @@ use Rattle.command_replies.specs.declared.reply.Reply.TheVariants.{Done, Refused
 use Rattle.session_state.specs.declared.edit.Targets.{Targets}
 use Rattle.session_state.specs.declared.edit.Targets.TheVariants.{One, Any}
 use Rattle.session_state.specs.declared.shown.Shown.TheVariants.{Names, Texts}
+use Rattle.word_lists.specs.KeySets.{key_set_of}
+use Rattle.session_state.specs.Abbreviations.{abbreviations_put}
 use Rattle.session_state.specs.DocumentReplies.{edit_refusal, load_refusal, removal_refusal, replied_by}
 use Rattle.session_state.specs.Edits.{deletion, edit_placed, edit_read, edit_selected, edit_with, places_selected, stays_if_refused, target_refusal}
 use Rattle.session_state.specs.Held.{Held}
@@ -37,7 +39,7 @@ use Rattle.session_state.specs.KeptTexts.{keep_plans}
 use Rattle.session_state.specs.Marks.{at_mark, has_mark, mark_named, mark_put, mark_taken, with_marks, without_mark}
 use Rattle.session_state.specs.Paths.{answer, missing_refusal}
 use Rattle.session_state.specs.State.{Mark, State, with_documents}
-use Rattle.session_state.specs.Step.{changes_documents, changes_marks, shown_at, step, with_lists}
+use Rattle.session_state.specs.Step.{changes_marks, changes_version, shown_at, step, with_lists}
 
 -- Where the reply is a refusal, what comes with it is what was there.
 abbrev pub Stays : {X : Type 0} → X → X × Reply → Type 0
@@ -89,9 +91,9 @@ keeps-dropped documents name false = refl
 stays-dropped : (documents : List Named) (name : List ℕ) → Stays documents (replied_by (removal_refusal name) (dropped documents name))
 stays-dropped documents name = keeps-replied (removal_refusal name) documents (dropped documents name) (keeps-dropped documents name (has_name name documents))
 
-stays-marked : (marks : List Mark) (name : List ℕ) (documents : List Named) → Stays marks (mark_put marks name documents)
-stays-marked marks name documents =
-    let more : List Mark = marks ++ record { name = name; documents = documents } ∷ [] in
+stays-marked : (marks : List Mark) (name : List ℕ) (documents : List Named) (abbreviations : List (List ℕ)) → Stays marks (mark_put marks name documents abbreviations)
+stays-marked marks name documents abbreviations =
+    let more : List Mark = marks ++ record { name = name; documents = documents; abbreviations = abbreviations } ∷ [] in
     refused-if (has_mark name marks) marks (refusal.NameTaken name) (cond (nat_le max_marks (length marks)) (marks, Refused (refusal.Full full.Marks)) (more, Done))
     (refused-if (nat_le max_marks (length marks)) marks (refusal.Full full.Marks) (more, Done) (done marks more))
 
@@ -115,6 +117,10 @@ in-lists state (lists, reply) refused = first (is_refusal reply) state _ refused
 
 in-plans : (path : List ℕ) (state : State) (answered : State × Reply) → Stays state answered → Stays state (keep_plans path answered)
 in-plans path state (after, reply) h refused = first (is_refusal reply) after _ refused ∙ h refused
+
+stays-abbreviated : (state : State) (keys : Result (List (List ℕ)) ℕ) → Stays state (abbreviations_put state keys)
+stays-abbreviated state (Err line) refused = refl
+stays-abbreviated state (Ok keys) refused = done state (record state { abbreviations = keys }) refused
 
 -- ---- edits
 
@@ -161,12 +167,13 @@ module _ (says : Judgement) (state : State) where
   stays (command.Replace path block) = in-plans path state (edit_with says state None path (fragment_of block)) (stays-with None path (fragment_of block))
   stays (command.Delete path) = in-plans path state (edit_read says state Any deletion (path_read path)) (stays-read Any deletion (path_read path))
   stays (command.Stop name block) = in-lists state _
+  stays (command.Abbreviations block) = stays-abbreviated state (key_set_of block)
   stays (command.Stems block) = in-lists state _
   stays (command.Thesaurus name block) = in-lists state _
   stays (command.Query path) = in-plans path state (state, answer says Names state path) (λ _. refl)
   stays (command.QueryAt name path) = stays-shown name path (mark_named name state.marks)
   stays (command.Print path) = in-plans path state (state, answer says Texts state path) (λ _. refl)
-  stays (command.Mark name) = in-marks state (mark_put state.marks name state.documents) (stays-marked state.marks name state.documents)
+  stays (command.Mark name) = in-marks state (mark_put state.marks name state.documents state.abbreviations) (stays-marked state.marks name state.documents state.abbreviations)
   stays (command.Unmark name) = in-marks state (mark_taken state.marks name) (stays-unmarked state.marks name)
   stays (command.Explain text) = λ _. refl
   stays command.Stats = λ _. refl
@@ -177,7 +184,7 @@ module _ (says : Judgement) (state : State) where
 
 -- A command was answered, and what is held is the same as before, as far as these facts say.
 module _ (says : Judgement) (before after : Held) (c : Command)
-    (version : changes_documents c ≡ false → after.version ≡ before.version)
+    (version : changes_version c ≡ false → after.version ≡ before.version)
     (marks : changes_marks c ≡ false → after.mark_versions ≡ before.mark_versions) where
   mark-versions : (reply : Reply) → (changes_marks c ≡ true → is_refusal reply ≡ true → after.mark_versions ≡ before.mark_versions)
       → is_refusal reply ≡ true → after.mark_versions ≡ before.mark_versions
@@ -187,11 +194,11 @@ module _ (says : Judgement) (before after : Held) (c : Command)
       by true is = set is refused
       by false is = marks is
 
-  same-version : (reply : Reply) → (changes_documents c ≡ true → is_refusal reply ≡ true → after.version ≡ before.version)
+  same-version : (reply : Reply) → (changes_version c ≡ true → is_refusal reply ≡ true → after.version ≡ before.version)
       → is_refusal reply ≡ true → after.version ≡ before.version
-  same-version reply changed refused = by (changes_documents c) refl
+  same-version reply changed refused = by (changes_version c) refl
     where
-      by : (test : Bool) → changes_documents c ≡ test → after.version ≡ before.version
+      by : (test : Bool) → changes_version c ≡ test → after.version ≡ before.version
       by true is = changed is refused
       by false is = version is
 
@@ -201,7 +208,7 @@ module _ (says : Judgement) (before after : Held) (c : Command)
       ap (λ (x : State × Reply). x.0) answered ∙ stays says before.state c (ap is_refusal (sym told) ∙ refused)
 
   pub refused-held : (result : Result Reply Memory) → IfOk result (λ reply. (after.state, reply) ≡ step says before.state c)
-      → (changes_documents c ≡ true → IfOk result (λ reply. is_refusal reply ≡ true → after.version ≡ before.version))
+      → (changes_version c ≡ true → IfOk result (λ reply. is_refusal reply ≡ true → after.version ≡ before.version))
       → (changes_marks c ≡ true → IfOk result (λ reply. is_refusal reply ≡ true → after.mark_versions ≡ before.mark_versions))
       → IfOk result (λ reply. is_refusal reply ≡ true → after ≡ before)
   refused-held (Ok reply) answered changed set =

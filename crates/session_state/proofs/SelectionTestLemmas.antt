@@ -20,7 +20,7 @@ use Rattle.ordered_tree.specs.Part.{counted_from, part, renumbered}
 use Rattle.ordered_tree.specs.Stands.{OnNode, Stand, references, span, stands_in}
 use Rattle.ft_base.specs.declared.ids.NodeRef.{NodeRef}
 use Rattle.ordered_tree.proofs.LawsLemmas.{one-node}
-use Rattle.ordered_tree.proofs.ShiftLemmas.{length-tokens, shift, stands-few}
+use Rattle.ordered_tree.proofs.ShiftLemmas.{shift, stands-few}
 use Rattle.path_meaning.specs.Elements.{Element, placed}
 use Rattle.path_nodes.specs.References.{Spot, spots_in, spot_element, spot_reference, found_in, element_of, IsElement}
 use Rattle.path_nodes.specs.Says.{Meaning}
@@ -30,6 +30,7 @@ use Rattle.plan_compiler.specs.Lexicon.{lexicon}
 use Rattle.plan_runs.specs.Judgement.{Judgement}
 use Rattle.plan_runs.specs.RunMeaning.{RunMeaning}
 use Rattle.kept_plans.specs.PlanOf.{PlanOf}
+use Rattle.tokenizer.proofs.PartsLemmas.{words-tokens}
 use Rattle.tokenizer.specs.Tokens.{tokens}
 use Rattle.session_state.specs.PathPrices.{are_cheap, element_price, words_of as element_words}
 use Rattle.session_state.specs.PlannedPaths.{is_meant, meant, run_meant, run_over, run_price}
@@ -128,12 +129,12 @@ as-many plans runs same = sym (length-map plans meant) ∙ (ap length (sym same)
 
 -- ---- the run of a number
 
-pub met-at : (says : Judgement) (runs : List RunMeaning) (k : ℕ) (run : RunMeaning) (e : Element) → k < length runs → get_or runs k run ≡ run
-    → is_meant says (map run_meant runs) k e ≡ says run.form run.lists (tokens e.node)
+pub met-at : (says : Judgement) (abbreviations : List (List ℕ)) (runs : List RunMeaning) (k : ℕ) (run : RunMeaning) (e : Element) → k < length runs → get_or runs k run ≡ run
+    → is_meant says abbreviations (map run_meant runs) k e ≡ says run.form run.lists (tokens abbreviations e.node)
 unfolding is_meant
-met-at says [] k run e more is = absurd (omega (arith, more))
-met-at says (r ∷ runs) zero run e more is = ap (λ q. says q.form q.lists (tokens e.node)) is
-met-at says (r ∷ runs) (suc k) run e more is = met-at says runs k run e (omega (arith, more)) is
+met-at says abbreviations [] k run e more is = absurd (omega (arith, more))
+met-at says abbreviations (r ∷ runs) zero run e more is = ap (λ q. says q.form q.lists (tokens abbreviations e.node)) is
+met-at says abbreviations (r ∷ runs) (suc k) run e more is = met-at says abbreviations runs k run e (omega (arith, more)) is
 
 pub priced-at : (runs : List RunMeaning) (k : ℕ) (run : RunMeaning) (e : Element) → k < length runs → get_or runs k run ≡ run
     → element_price (map run_price runs) k e ≡ run_price run (element_words e)
@@ -148,8 +149,9 @@ cheap-at [] k run h more is = absurd (omega (arith, more))
 cheap-at (r ∷ runs) zero run h more is = sym (ap (λ (q : RunMeaning). is_cheap (lexicon q.lists) q.form) is) ∙ (and_parts (is_cheap (lexicon r.lists) r.form) (are_cheap (map run_meant runs)) h).0
 cheap-at (r ∷ runs) (suc k) run h more is = cheap-at runs k run (and_parts (is_cheap (lexicon r.lists) r.form) (are_cheap (map run_meant runs)) h).1 (omega (arith, more)) is
 
-pub over-at : (runs : List RunMeaning) (k : ℕ) (run : RunMeaning) (t : ℕ × Numbered) → k < length runs → get_or runs k run ≡ run → AreOver runs t → Follows run.version t.0 t.1
-over-at runs k run t more is over = subst (λ (q : RunMeaning). Follows q.version t.0 t.1) is (over k run more)
+pub over-at : (abbreviations : List (List ℕ)) (runs : List RunMeaning) (k : ℕ) (run : RunMeaning) (t : ℕ × Numbered) → k < length runs → get_or runs k run ≡ run
+    → AreOver abbreviations runs t → Follows abbreviations run.version t.0 t.1
+over-at abbreviations runs k run t more is over = subst (λ (q : RunMeaning). Follows abbreviations q.version t.0 t.1) is (over k run more)
 
 -- the run of a number among the runs that are lent
 pub run-lent : (lent runs : List RunMeaning) (k : ℕ) (run : RunMeaning) → runs ≡ lent → run ≡ get_or runs k run → get_or lent k (get_or runs k run) ≡ get_or runs k run
@@ -157,11 +159,13 @@ run-lent lent runs k run same is = ap (λ rs. get_or rs k (get_or runs k run)) (
 
 -- ---- the loans of a test
 
-pub runs-loan : (says : Judgement) (runs : List RunMeaning) (root root₂ : Numbered) (x y x₂ y₂ : ℕ) → asked_of says runs root x y ≡ asked_of says runs root₂ x₂ y₂ → x ≡ x₂
-runs-loan says runs root root₂ x y x₂ y₂ same = ap (λ (m : Meaning). get_or m.lent 0 x) same
+pub runs-loan : (says : Judgement) (abbreviations : List (List ℕ)) (runs : List RunMeaning) (root root₂ : Numbered) (x y x₂ y₂ : ℕ)
+    → asked_of says abbreviations runs root x y ≡ asked_of says abbreviations runs root₂ x₂ y₂ → x ≡ x₂
+runs-loan says abbreviations runs root root₂ x y x₂ y₂ same = ap (λ (m : Meaning). get_or m.lent 0 x) same
 
-pub moves-loan : (says : Judgement) (runs : List RunMeaning) (root root₂ : Numbered) (x y x₂ y₂ : ℕ) → asked_of says runs root x y ≡ asked_of says runs root₂ x₂ y₂ → y ≡ y₂
-moves-loan says runs root root₂ x y x₂ y₂ same = ap (λ (m : Meaning). get_or m.lent 1 y) same
+pub moves-loan : (says : Judgement) (abbreviations : List (List ℕ)) (runs : List RunMeaning) (root root₂ : Numbered) (x y x₂ y₂ : ℕ)
+    → asked_of says abbreviations runs root x y ≡ asked_of says abbreviations runs root₂ x₂ y₂ → y ≡ y₂
+moves-loan says abbreviations runs root root₂ x y x₂ y₂ same = ap (λ (m : Meaning). get_or m.lent 1 y) same
 
 -- ---- the words at the span of a node
 
@@ -176,54 +180,58 @@ words-renumbered (first ∷ rest) = words-counted first (first ∷ rest)
 words-range : (ts : List Token) (a b : ℕ) → map (λ token. token.word) (slice_range ts a b) ≡ slice_range (map (λ token. token.word) ts) a b
 words-range ts a b = sym (take-map (λ (token : Token). token.word) (b - a) (drop a ts)) ∙ ap (take (b - a)) (sym (drop-map (λ (token : Token). token.word) a ts))
 
-module _ (version : List indexed.Numbered) (doc : ℕ) (root : Numbered) (follows : Follows version doc root) where
+module _ (abbreviations : List (List ℕ)) (version : List indexed.Numbered) (doc : ℕ) (root : Numbered) (follows : Follows abbreviations version doc root) where
   -- the words of the document are those of the tree's tokens
-  words-there : words_of (document_at doc version) ≡ map (λ token. token.word) (tokens (plain root))
-  words-there = ap words_of follows.document ∙ words-tree root
+  words-there : words_of (document_at doc version) ≡ map (λ token. token.word) (tokens abbreviations (plain root))
+  words-there = ap words_of follows.document ∙ (words-tree abbreviations root ∙ sym (words-tokens abbreviations (plain root)))
 
-  pub words-at-span : (at : Span) (ts : List Token) → part (tokens (plain root)) at ≡ ts → map (λ token. token.word) ts ≡ words_at at (document_at doc version)
+  pub words-at-span : (at : Span) (ts : List Token) → part (tokens abbreviations (plain root)) at ≡ ts → map (λ token. token.word) ts ≡ words_at at (document_at doc version)
   words-at-span at ts is =
       ap (map (λ token. token.word)) (sym is)
-      ∙ (words-renumbered (slice_range (tokens (plain root)) (at.from - 1) (at.to - 1))
-      ∙ (words-range (tokens (plain root)) (at.from - 1) (at.to - 1)
+      ∙ (words-renumbered (slice_range (tokens abbreviations (plain root)) (at.from - 1) (at.to - 1))
+      ∙ (words-range (tokens abbreviations (plain root)) (at.from - 1) (at.to - 1)
       ∙ ap (λ ws. slice_range ws (at.from - 1) (at.to - 1)) (sym words-there)))
 
   -- and the span is inside it
   pub span-inside : (s : Stand) → Contains (stands_in root) s → (span s).to ≤ token_count (document_at doc version) + 1
   span-inside s among =
       let below = All-contains (λ s. s.around.before + word_count (plain s.node) ≤ word_count (plain root)) (stands_in root) s (stands-few root) among in
-      let count : token_count (document_at doc version) ≡ length (tokens (plain root)) = ap token_count follows.document ∙ count-tree root in
-      omega (arith, below, count, length-tokens (plain root))
+      let count : token_count (document_at doc version) ≡ word_count (plain root) = ap token_count follows.document ∙ count-tree abbreviations root in
+      omega (arith, below, count)
 
   pub span-there : (s : Stand) → Contains (stands_in root) s → IsSpan (span s) (document_at doc version)
   span-there s among = record { first = omega arith; order = omega arith; last = span-inside s among }
 
 -- ---- what is said of the tokens at each span is said of each node
 
-pub skipped : (says : Judgement) (runs : List RunMeaning) (root : Numbered) (k : ℕ) (run : RunMeaning) (doc from to : ℕ) → get_or runs k run ≡ run → AreOver runs (doc, root)
+pub skipped : (says : Judgement) (abbreviations : List (List ℕ)) (runs : List RunMeaning) (root : Numbered) (k : ℕ) (run : RunMeaning) (doc from to : ℕ) → get_or runs k run ≡ run
+    → AreOver abbreviations runs (doc, root)
     → ((at : Span) → (1 ≤ at.from) × (at.from ≤ at.to) × (at.to ≤ token_count (document_at doc run.version) + 1)
     → from ≤ at.from → at.to ≤ to → says run.form run.lists (span_tokens at (document_at doc run.version)) ≡ false)
-    → (r : NodeRef) → IsTrue (may_ask runs root k r) → from ≤ (span_at root r).from → (span_at root r).to ≤ to → is_meant says (map run_meant runs) k (element_of root r) ≡ false
-skipped says runs root k run doc from to is over none r asked suffix ahead =
+    → (r : NodeRef) → IsTrue (may_ask runs root k r) → from ≤ (span_at root r).from → (span_at root r).to ≤ to
+    → is_meant says abbreviations (map run_meant runs) k (element_of root r) ≡ false
+skipped says abbreviations runs root k run doc from to is over none r asked suffix ahead =
     let n = asked-node runs root k r asked in
     let among = spot-stand root n.spot n.among in
     let less = asked-run runs root k r asked in
-    let follows = over-at runs k run (doc, root) less is over in
-    let ts = tokens (plain n.spot.stand.node) in
-    let here = All-contains (λ t. part (tokens (plain root)) (span t) ≡ tokens (plain t.node)) (stands_in root) n.spot.stand (shift root) among in
-    let below = span-inside run.version doc root follows n.spot.stand among in
-    let same = tokens-at-span run.version doc root (span n.spot.stand) ts follows (span-there run.version doc root follows n.spot.stand among) here in
-    met-at says runs k run (element_of root r) less is
-    ∙ (ap (λ (e : Element). says run.form run.lists (tokens e.node)) n.is
+    let follows = over-at abbreviations runs k run (doc, root) less is over in
+    let ts = tokens abbreviations (plain n.spot.stand.node) in
+    let here = All-contains (λ t. part (tokens abbreviations (plain root)) (span t) ≡ tokens abbreviations (plain t.node)) (stands_in root) n.spot.stand (shift abbreviations root) among in
+    let below = span-inside abbreviations run.version doc root follows n.spot.stand among in
+    let same = tokens-at-span abbreviations run.version doc root (span n.spot.stand) ts follows (span-there abbreviations run.version doc root follows n.spot.stand among) here in
+    met-at says abbreviations runs k run (element_of root r) less is
+    ∙ (ap (λ (e : Element). says run.form run.lists (tokens abbreviations e.node)) n.is
     ∙ (ap (says run.form run.lists) (sym same) ∙ none (span n.spot.stand) (omega arith, omega arith, below) (subst (λ (s : Span). from ≤ s.from) n.at suffix) (subst (λ (s : Span). s.to ≤ to) n.at ahead)))
 
 -- ---- runs of plans over one version
 
-over-all : (version : List indexed.Numbered) (plans : List PlanOf) (t : ℕ × Numbered) → Follows version t.0 t.1 → AreOver (map (run_over version) plans) t
-over-all version [] t follows k d less = absurd (omega (arith, less))
-over-all version (plan ∷ plans) t follows zero d less = follows
-over-all version (plan ∷ plans) t follows (suc k) d less = over-all version plans t follows k d (omega (arith, less))
+over-all : (abbreviations : List (List ℕ)) (version : List indexed.Numbered) (plans : List PlanOf) (t : ℕ × Numbered) → Follows abbreviations version t.0 t.1
+    → AreOver abbreviations (map (run_over version) plans) t
+over-all abbreviations version [] t follows k d less = absurd (omega (arith, less))
+over-all abbreviations version (plan ∷ plans) t follows zero d less = follows
+over-all abbreviations version (plan ∷ plans) t follows (suc k) d less = over-all abbreviations version plans t follows k d (omega (arith, less))
 
-pub over-each : (version : List indexed.Numbered) (plans : List PlanOf) (trees : List (ℕ × Numbered)) → FollowsEach version trees → AreOverEach (map (run_over version) plans) trees
-over-each version plans [] follow = tt
-over-each version plans (t ∷ trees) follow = (over-all version plans t follow.0, over-each version plans trees follow.1)
+pub over-each : (abbreviations : List (List ℕ)) (version : List indexed.Numbered) (plans : List PlanOf) (trees : List (ℕ × Numbered)) → FollowsEach abbreviations version trees
+    → AreOverEach abbreviations (map (run_over version) plans) trees
+over-each abbreviations version plans [] follow = tt
+over-each abbreviations version plans (t ∷ trees) follow = (over-all abbreviations version plans t follow.0, over-each abbreviations version plans trees follow.1)

@@ -32,22 +32,22 @@ use Rattle.session_state.proofs.MarkLemmas.{found-mark, Entry, IsFound}
 -- what a session holds, by its parts
 abbrev pub held_as : Indexed → Preparation → List Entry → Held
 held_as collection q entries = record {
-  state = record { documents = collection.documents; lists = q.lists; marks = marks_of entries; kept = q.kept };
+  state = record { documents = collection.documents; abbreviations = collection.abbreviations; lists = q.lists; marks = marks_of entries; kept = q.kept };
   version = collection.version;
   mark_versions = versions_of entries;
 }
 
--- a path is answered by the documents and the lists alone
-module _ (says : Judgement) (what : Shown) (a b : State) (documents : a.documents ≡ b.documents) (lists : a.lists ≡ b.lists) where
+-- a path is answered by the documents, the abbreviations and the lists alone
+module _ (says : Judgement) (what : Shown) (a b : State) (documents : a.documents ≡ b.documents) (abbreviations : a.abbreviations ≡ b.abbreviations) (lists : a.lists ≡ b.lists) where
   pub same-answer : (read : Result PathForm QueryFault) → answer_read says what a read ≡ answer_read says what b read
   same-answer (Err fault) = refl
-  same-answer (Ok p) = λ i. answer_read says what (record { documents = documents i; lists = lists i; marks = a.marks; kept = a.kept }) (Ok p)
+  same-answer (Ok p) = λ i. answer_read says what (record { documents = documents i; abbreviations = abbreviations i; lists = lists i; marks = a.marks; kept = a.kept }) (Ok p)
 
-pub same-price : (says : Judgement) (a b : Held) (read : Result PathForm QueryFault) → a.state.documents ≡ b.state.documents → a.state.lists ≡ b.state.lists → a.version ≡ b.version
-    → read_price says a read ≡ read_price says b read
-same-price says a b (Err fault) documents lists version = refl
-same-price says a b (Ok p) documents lists version =
-    λ i. read_price says (record { state = record { documents = documents i; lists = lists i; marks = a.state.marks; kept = a.state.kept }; version = version i; mark_versions = a.mark_versions }) (Ok p)
+pub same-price : (says : Judgement) (a b : Held) (read : Result PathForm QueryFault) → a.state.documents ≡ b.state.documents → a.state.abbreviations ≡ b.state.abbreviations
+    → a.state.lists ≡ b.state.lists → a.version ≡ b.version → read_price says a read ≡ read_price says b read
+same-price says a b (Err fault) documents abbreviations lists version = refl
+same-price says a b (Ok p) documents abbreviations lists version =
+    λ i. read_price says (record { state = record { documents = documents i; abbreviations = abbreviations i; lists = lists i; marks = a.state.marks; kept = a.state.kept }; version = version i; mark_versions = a.mark_versions }) (Ok p)
 
 -- the plans of a path are kept where its reply isn't refused
 pub kept-by-reply : (state : State) (q : Preparation) (text : List ℕ) (reply : Reply) → q ≡ kept_for text reply (prepared_of state)
@@ -57,14 +57,15 @@ kept-by-reply state q text reply is =
     ∙ elim (is_refusal reply) as (λ b. replied (with_prepared_in state (cond b (prepared_of state) (with_kept (kept_after text (path_read text) state.kept) (prepared_of state)))) reply
     ≡ replied (cond b state (record state { kept = kept_after text (path_read text) state.kept })) reply) [ true ↦ refl | false ↦ refl ]
 
--- a path that goes along a collection is answered as in a state of its documents
-module _ (says : Judgement) (what : Shown) (collection : Indexed) (state at : State) (text : List ℕ) (documents : collection.documents ≡ at.documents) (lists : state.lists ≡ at.lists) where
+-- a path that goes along a collection is answered as in a state of its documents and its abbreviations
+module _ (says : Judgement) (what : Shown) (collection : Indexed) (state at : State) (text : List ℕ) (documents : collection.documents ≡ at.documents)
+    (abbreviations : collection.abbreviations ≡ at.abbreviations) (lists : state.lists ≡ at.lists) where
   pub shown-along : (result : Result Reply Memory) (q : Preparation) → IfOk result (λ reply. reply ≡ answer says what (state_of collection state.lists) text)
       → IfOk result (λ reply. q ≡ kept_for text reply (prepared_of state))
       → IfOk result (λ reply. replied (with_prepared_in state q) reply ≡ keep_plans text (state, answer says what at text))
   shown-along (Ok reply) q is kept =
       kept-by-reply state q text reply kept
-      ∙ ap (λ r. keep_plans text (state, r)) (is ∙ same-answer says what (state_of collection state.lists) at documents lists (path_read text))
+      ∙ ap (λ r. keep_plans text (state, r)) (is ∙ same-answer says what (state_of collection state.lists) at documents abbreviations lists (path_read text))
   shown-along (Err e) q is kept = tt
 
 -- the same along the collection of a mark
@@ -81,11 +82,11 @@ module _ (says : Judgement) (held : Held) (entries : List Entry) (marks : held.s
       → IfOk result (λ reply. replied (with_prepared_in held.state q) reply ≡ shown_at says held.state name text (mark_named name held.state.marks))
   shown-at-mark result q is kept =
       subst (λ (o : Option Mark). IfOk result (λ reply. replied (with_prepared_in held.state q) reply ≡ shown_at says held.state name text o)) (sym named)
-      (shown-along says Names collection held.state (at_mark held.state there.mark) text (sym there.documents) refl result q is kept)
+      (shown-along says Names collection held.state (at_mark held.state there.mark) text (sym there.documents) (sym there.abbreviations) refl result q is kept)
 
   pub price-at-mark : read_price says (held_of collection held.state.lists) (path_read text) ≡ price_at says held name text (mark_named name held.state.marks)
   price-at-mark =
-      same-price says (held_of collection held.state.lists) (held_at held name there.mark) (path_read text) (sym there.documents) refl
+      same-price says (held_of collection held.state.lists) (held_at held name there.mark) (path_read text) (sym there.documents) (sym there.abbreviations) refl
       (sym ((λ i. version_of_mark name (marks i) (versions i)) ∙ there.version))
       ∙ sym (ap (price_at says held name text) named)
 

@@ -1,4 +1,4 @@
--- The document that follows a tree has the tree's tokens as its text, and at the span of a node the node's own tokens.
+-- The document that follows a tree under abbreviations has the tree's tokens under them as its text, and at the span of a node the node's own tokens.
 use Rattle.std.proofs.Common.{◌≡◌, ◌∙◌, sym, ap, refl, subst, ℕ, zero, suc, ◌+◌, ◌-◌, ◌<◌, ◌≤◌, ◌==◌, Bool, true, false, if◌then◌else◌, List, [], ◌∷◌, ◌++◌, length, map, get_or, zero-add, arith}
 use Rattle.std.specs.Prelude.{⊤, nat_le}
 use Rattle.std.specs.List.{All}
@@ -20,6 +20,7 @@ use Rattle.index_updates.specs.Follows.{Follows, tree_document}
 use Rattle.index_updates.proofs.WordsLemmas.{words-tree}
 use Rattle.ordered_tree.specs.Numbered.{Numbered, plain}
 use Rattle.ordered_tree.specs.Part.{counted_from, part, renumbered}
+use Rattle.tokenizer.proofs.PartsLemmas.{words-tokens}
 use Rattle.tokenizer.specs.Gaps.{gap, ends_paragraph, ends_sentence}
 use Rattle.tokenizer.specs.Parts.{Part, word, gap_characters, gap_tag, parts}
 use Rattle.tokenizer.specs.Tokens.{paragraph_starts, shifted, sentence_starts, starts, tokens, tokens_from}
@@ -127,30 +128,30 @@ are-counted (gap_tag name ∷ xs) s p hs hp = are-counted xs s p hs hp
 
 -- ---- the text of a tree
 
-pub text-of-tree : (root : Numbered) → IsText (tree_document root) (tokens (plain root))
+pub text-of-tree : (abbreviations : List (List ℕ)) (root : Numbered) → IsText (tree_document abbreviations root) (tokens abbreviations (plain root))
 unfolding tree_document tokens
-text-of-tree root = record {
-  words = sym (words-tree root);
+text-of-tree abbreviations root = record {
+  words = words-tokens abbreviations (plain root) ∙ sym (words-tree abbreviations root);
   sentences = λ place first last.
       let i = place - 1 in
       let at : place ≡ suc i = omega (arith, first) in
       let next : 1 + i ≡ place = omega (arith, first) in
-      let there : i < length (tokens (plain root)) = omega (arith, first, last) in
-      ap (λ p. sentence_at (tokens (plain root)) p) at
-      ∙ sentence_read (tokens (plain root)) i there
-      ∙ number-up_to (λ token. token.sentence) 0 1 (tokens (plain root)) i (sentences-rise (parts (plain root)) 1 1 0 (omega arith) (omega arith)) there
-      ∙ all-up_to (1 + i) (sentence_starts (tokens (plain root)))
-      ∙ ap (started (sentence_starts (tokens (plain root)))) next;
+      let there : i < length (tokens abbreviations (plain root)) = omega (arith, first, last) in
+      ap (λ p. sentence_at (tokens abbreviations (plain root)) p) at
+      ∙ sentence_read (tokens abbreviations (plain root)) i there
+      ∙ number-up_to (λ token. token.sentence) 0 1 (tokens abbreviations (plain root)) i (sentences-rise (parts abbreviations (plain root)) 1 1 0 (omega arith) (omega arith)) there
+      ∙ all-up_to (1 + i) (sentence_starts (tokens abbreviations (plain root)))
+      ∙ ap (started (sentence_starts (tokens abbreviations (plain root)))) next;
   paragraphs = λ place first last.
       let i = place - 1 in
       let at : place ≡ suc i = omega (arith, first) in
       let next : 1 + i ≡ place = omega (arith, first) in
-      let there : i < length (tokens (plain root)) = omega (arith, first, last) in
-      ap (λ p. paragraph_at (tokens (plain root)) p) at
-      ∙ paragraph_read (tokens (plain root)) i there
-      ∙ number-up_to (λ token. token.paragraph) 0 1 (tokens (plain root)) i (paragraphs-rise (parts (plain root)) 1 1 0 (omega arith) (omega arith)) there
-      ∙ all-up_to (1 + i) (paragraph_starts (tokens (plain root)))
-      ∙ ap (started (paragraph_starts (tokens (plain root)))) next;
+      let there : i < length (tokens abbreviations (plain root)) = omega (arith, first, last) in
+      ap (λ p. paragraph_at (tokens abbreviations (plain root)) p) at
+      ∙ paragraph_read (tokens abbreviations (plain root)) i there
+      ∙ number-up_to (λ token. token.paragraph) 0 1 (tokens abbreviations (plain root)) i (paragraphs-rise (parts abbreviations (plain root)) 1 1 0 (omega arith) (omega arith)) there
+      ∙ all-up_to (1 + i) (paragraph_starts (tokens abbreviations (plain root)))
+      ∙ ap (started (paragraph_starts (tokens abbreviations (plain root)))) next;
 }
 
 -- ---- the tokens at the span of a node
@@ -165,12 +166,12 @@ module _ (f g : ℕ → ℕ) (first : Token) where
 from-first : (n first start : ℕ) → first ≡ start → 1 ≤ first → n - (start - 1) ≡ n + 1 - first
 from-first n first start same least = omega (arith, same, least)
 
-module _ (root : Numbered) (at : Span) (inside : IsSpan at (tree_document root)) where
+module _ (abbreviations : List (List ℕ)) (root : Numbered) (at : Span) (inside : IsSpan at (tree_document abbreviations root)) where
   abbrev document : Document
-  document = tree_document root
+  document = tree_document abbreviations root
 
   abbrev all : List Token
-  all = tokens (plain root)
+  all = tokens abbreviations (plain root)
 
   abbrev own_sentence : ℕ → ℕ
   own_sentence n = n - (started document.sentences at.from - 1)
@@ -184,7 +185,7 @@ module _ (root : Numbered) (at : Span) (inside : IsSpan at (tree_document root))
   part-counted : All IsCounted (in_span at all)
   unfolding tokens
   part-counted =
-      All-take IsCounted (at.to - 1 - (at.from - 1)) _ (All-drop IsCounted (at.from - 1) all (are-counted (parts (plain root)) 1 1 (omega arith) (omega arith)))
+      All-take IsCounted (at.to - 1 - (at.from - 1)) _ (All-drop IsCounted (at.from - 1) all (are-counted (parts abbreviations (plain root)) 1 1 (omega arith) (omega arith)))
 
   own-part : (ts : List Token) → in_span at all ≡ ts → own ts ≡ renumbered ts
   own-part [] is = refl
@@ -195,17 +196,17 @@ module _ (root : Numbered) (at : Span) (inside : IsSpan at (tree_document root))
       let head : get_or (in_span at all) 0 no_token ≡ first = ap (λ ts. get_or ts 0 no_token) is in
       let least = subst IsCounted head (part-counted 0 no_token there) in
       let sentence : first.sentence ≡ started document.sentences at.from =
-      ap (λ (t : Token). t.sentence) (sym head) ∙ part_sentence document all at (text-of-tree root) inside 0 there ∙ ap (started document.sentences) prefix in
+      ap (λ (t : Token). t.sentence) (sym head) ∙ part_sentence document all at (text-of-tree abbreviations root) inside 0 there ∙ ap (started document.sentences) prefix in
       let paragraph : first.paragraph ≡ started document.paragraphs at.from =
-      ap (λ (t : Token). t.paragraph) (sym head) ∙ part_paragraph document all at (text-of-tree root) inside 0 there ∙ ap (started document.paragraphs) prefix in
+      ap (λ (t : Token). t.paragraph) (sym head) ∙ part_paragraph document all at (text-of-tree abbreviations root) inside 0 there ∙ ap (started document.paragraphs) prefix in
       counted-each own_sentence own_paragraph first (first ∷ rest)
       (λ n. from-first n first.sentence (started document.sentences at.from) sentence least.sentence)
       (λ n. from-first n first.paragraph (started document.paragraphs at.from) paragraph least.paragraph)
 
   tokens-of-span : span_tokens at document ≡ part all at
-  tokens-of-span = tokens_of_text document all at (text-of-tree root) inside ∙ own-part (in_span at all) refl
+  tokens-of-span = tokens_of_text document all at (text-of-tree abbreviations root) inside ∙ own-part (in_span at all) refl
 
-pub tokens-at-span : (version : List indexed.Numbered) (doc : ℕ) (root : Numbered) (at : Span) (ts : List Token)
-    → Follows version doc root → IsSpan at (document_at doc version) → part (tokens (plain root)) at ≡ ts → span_tokens at (document_at doc version) ≡ ts
-tokens-at-span version doc root at ts follows inside is =
-    ap (span_tokens at) follows.document ∙ tokens-of-span root at (subst (IsSpan at) follows.document inside) ∙ is
+pub tokens-at-span : (abbreviations : List (List ℕ)) (version : List indexed.Numbered) (doc : ℕ) (root : Numbered) (at : Span) (ts : List Token)
+    → Follows abbreviations version doc root → IsSpan at (document_at doc version) → part (tokens abbreviations (plain root)) at ≡ ts → span_tokens at (document_at doc version) ≡ ts
+tokens-at-span abbreviations version doc root at ts follows inside is =
+    ap (span_tokens at) follows.document ∙ tokens-of-span abbreviations root at (subst (IsSpan at) follows.document inside) ∙ is

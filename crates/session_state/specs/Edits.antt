@@ -36,7 +36,7 @@ leads_through (Doc asked) name = bytes_eq asked name
 -- the places of the elements that a path selects, of each document in order
 abbrev pub places_selected : Judgement → State → PathForm → List (List (List ℕ))
 places_selected says state p =
-    map (λ d. if leads_through p.path.root d.name then map (λ e. e.place) (selected_in says state.lists p d.root) else []) state.documents
+    map (λ d. if leads_through p.path.root d.name then map (λ e. e.place) (selected_in says state.abbreviations state.lists p d.root) else []) state.documents
 
 abbrev pub target_count : List (List (List ℕ)) → ℕ
 target_count places = sum_by length places

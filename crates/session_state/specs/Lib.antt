@@ -1,6 +1,7 @@
 pub mod State
 pub mod StateView
 pub mod Held
+pub mod Abbreviations
 pub mod Paths
 pub mod PathPrices
 pub mod PlannedPaths

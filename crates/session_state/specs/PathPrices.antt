@@ -18,7 +18,7 @@ use Rattle.plan_compiler.specs.NamedLists.{NamedLists}
 use Rattle.plan_runs.specs.RunPrice.{price}
 use Rattle.command_replies.specs.declared.command.Command.{Command}
 use Rattle.command_replies.specs.declared.command.Command.TheVariants as command
-use Rattle.tokenizer.specs.Tokens.{tokens}
+use Rattle.tokenizer.specs.Tokens.{words_in}
 use Rattle.session_state.specs.Held.{Held}
 use Rattle.session_state.specs.Marks.{at_mark, mark_named, version_of_mark}
 use Rattle.session_state.specs.Paths.{satisfies, selections_of}
@@ -26,7 +26,7 @@ use Rattle.session_state.specs.State.{Mark}
 
 -- the words of an element, in order
 abbrev pub words_of : Element → List (List ℕ)
-words_of e = map (λ token. token.word) (tokens e.node)
+words_of e = words_in e.node
 
 -- the price of the selection of that number at an element, by what each selection costs at words; none for one that isn't there
 unfoldable pub element_price : List (List (List ℕ) → ℕ) → ℕ → Element → ℕ
@@ -39,20 +39,21 @@ abbrev pub selection_prices : NamedLists → List Numbered → PathForm → List
 selection_prices lists version p = map (λ form text. price (lexicon lists) form version text) (selections_of p)
 
 -- the prices of the tests for which a path asks in a document
-abbrev pub price_in : Judgement → NamedLists → List Numbered → PathForm → Node → ℕ
-price_in says lists version p root =
-    total_price (element_price (selection_prices lists version p)) (selected_tests (satisfies says lists (selections_of p)) p.path.steps root)
+abbrev pub price_in : Judgement → List (List ℕ) → NamedLists → List Numbered → PathForm → Node → ℕ
+price_in says abbreviations lists version p root =
+    total_price (element_price (selection_prices lists version p))
+    (selected_tests (satisfies says abbreviations lists (selections_of p)) p.path.steps root)
 
 -- and in all documents of its root
 abbrev pub path_price : Judgement → Held → PathForm → ℕ
-path_price says held p = sum_by (λ d. price_in says held.state.lists held.version p d.root) (documents p.path.root held.state.documents)
+path_price says held p = sum_by (λ d. price_in says held.state.abbreviations held.state.lists held.version p d.root) (documents p.path.root held.state.documents)
 
 -- a text that is no path asks for nothing
 abbrev pub read_price : Judgement → Held → Result PathForm QueryFault → ℕ
 read_price says held (Err fault) = 0
 read_price says held (Ok p) = path_price says held p
 
--- what a session holds, with the documents and the version of a mark in the place of those of now
+-- what a session holds, with the documents, the abbreviations and the version of a mark in the place of those of now
 abbrev pub held_at : Held → List ℕ → Mark → Held
 held_at held name mark =
     record held { state = at_mark held.state mark; version = version_of_mark name held.state.marks held.mark_versions }

@@ -31,15 +31,16 @@ use Rattle.session_state.specs.State.{State}
 abbrev pub selections_of : PathForm → List Form
 selections_of p = map (λ s. s.form) p.selections
 
--- whether an element's tokens satisfy the selection of that number, under these lists. They don't satisfy one that isn't there
-unfoldable pub satisfies : Judgement → NamedLists → List Form → ℕ → Element → Bool
-satisfies says lists [] k e = false
-satisfies says lists (first ∷ rest) zero e = says first lists (tokens e.node)
-satisfies says lists (first ∷ rest) (suc k) e = satisfies says lists rest k e
+-- whether an element's tokens under the abbreviations satisfy the selection of that number, under these lists. They don't satisfy one that
+-- isn't there
+unfoldable pub satisfies : Judgement → List (List ℕ) → NamedLists → List Form → ℕ → Element → Bool
+satisfies says abbreviations lists [] k e = false
+satisfies says abbreviations lists (first ∷ rest) zero e = says first lists (tokens abbreviations e.node)
+satisfies says abbreviations lists (first ∷ rest) (suc k) e = satisfies says abbreviations lists rest k e
 
 -- the elements of a document that a path selects
-abbrev pub selected_in : Judgement → NamedLists → PathForm → Node → List Element
-selected_in says lists p root = selected (satisfies says lists (selections_of p)) p.path.steps root
+abbrev pub selected_in : Judgement → List (List ℕ) → NamedLists → PathForm → Node → List Element
+selected_in says abbreviations lists p root = selected (satisfies says abbreviations lists (selections_of p)) p.path.steps root
 
 -- ---- how they are shown
 
@@ -51,7 +52,7 @@ lines_of Texts name root found = map (λ e. printed_line e.node) found
 -- the lines for a path, document by document in the order of loading
 abbrev pub lines_for : Judgement → Shown → State → PathForm → List (List ℕ)
 lines_for says shown state p =
-    flat_map (λ d. lines_of shown d.name d.root (selected_in says state.lists p d.root)) (documents p.path.root state.documents)
+    flat_map (λ d. lines_of shown d.name d.root (selected_in says state.abbreviations state.lists p d.root)) (documents p.path.root state.documents)
 
 abbrev pub reply_with : Shown → List (List ℕ) → Reply
 reply_with Names lines = reply.Nodes lines

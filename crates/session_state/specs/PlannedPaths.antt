@@ -70,29 +70,30 @@ AreRunsOf path runs = map run_meant runs ≡ map meant path.plans.now
 abbrev pub has_cheap_plans : PlannedPath → Bool
 has_cheap_plans path = are_cheap (map meant path.plans.now)
 
--- whether an element's tokens satisfy the selection of that number, under its lists
-unfoldable pub is_meant : Judgement → List (NamedLists × Form) → ℕ → Element → Bool
-is_meant says [] k e = false
-is_meant says (first ∷ rest) zero e = says first.1 first.0 (tokens e.node)
-is_meant says (first ∷ rest) (suc k) e = is_meant says rest k e
+-- whether an element's tokens under the abbreviations satisfy the selection of that number, under its lists
+unfoldable pub is_meant : Judgement → List (List ℕ) → List (NamedLists × Form) → ℕ → Element → Bool
+is_meant says abbreviations [] k e = false
+is_meant says abbreviations (first ∷ rest) zero e = says first.1 first.0 (tokens abbreviations e.node)
+is_meant says abbreviations (first ∷ rest) (suc k) e = is_meant says abbreviations rest k e
 
 -- the elements of a document to which the steps lead
-abbrev pub planned_in : Judgement → PlannedPath → Node → List Element
-planned_in says path root = selected (is_meant says (map meant path.plans.now)) (steps (map step path.steps.now)) root
+abbrev pub planned_in : Judgement → List (List ℕ) → PlannedPath → Node → List Element
+planned_in says abbreviations path root = selected (is_meant says abbreviations (map meant path.plans.now)) (steps (map step path.steps.now)) root
 
 -- their lines
-abbrev pub planned_lines : Judgement → Shown → PlannedPath → Named → List (List ℕ)
-planned_lines says shown path d = lines_of shown d.name d.root (planned_in says path d.root)
+abbrev pub planned_lines : Judgement → List (List ℕ) → Shown → PlannedPath → Named → List (List ℕ)
+planned_lines says abbreviations shown path d = lines_of shown d.name d.root (planned_in says abbreviations path d.root)
 
 -- what a run costs at words
 abbrev pub run_price : RunMeaning → List (List ℕ) → ℕ
 run_price run text = price (lexicon run.lists) run.form run.version text
 
 -- the prices of the tests for which the steps ask in a document, of these runs
-abbrev pub planned_price : Judgement → PlannedPath → List RunMeaning → Node → ℕ
-planned_price says path runs root =
-    total_price (element_price (map run_price runs)) (selected_tests (is_meant says (map meant path.plans.now)) (steps (map step path.steps.now)) root)
+abbrev pub planned_price : Judgement → List (List ℕ) → PlannedPath → List RunMeaning → Node → ℕ
+planned_price says abbreviations path runs root =
+    total_price (element_price (map run_price runs))
+    (selected_tests (is_meant says abbreviations (map meant path.plans.now)) (steps (map step path.steps.now)) root)
 
 -- in some documents
-abbrev pub prices_in : Judgement → PlannedPath → List RunMeaning → List Named → ℕ
-prices_in says path runs documents = sum_by (λ d. planned_price says path runs d.root) documents
+abbrev pub prices_in : Judgement → List (List ℕ) → PlannedPath → List RunMeaning → List Named → ℕ
+prices_in says abbreviations path runs documents = sum_by (λ d. planned_price says abbreviations path runs d.root) documents

@@ -35,18 +35,18 @@ where_cheap runs count = cond (are_cheap (map run_meant runs)) count 0
 
 -- It is said whether the element that the reference names satisfies the selection, for the price of the run at its words where all
 -- selections are cheap. The runs and a count of steps are lent, under these names.
-abbrev pub asked_of : Judgement → List RunMeaning → Numbered → ℕ → ℕ → Meaning
-asked_of says runs root runs_loan moves_loan = record {
+abbrev pub asked_of : Judgement → List (List ℕ) → List RunMeaning → Numbered → ℕ → ℕ → Meaning
+asked_of says abbreviations runs root runs_loan moves_loan = record {
   may_ask = may_ask runs root;
-  says = λ k r. is_meant says (map run_meant runs) k (element_of root r);
+  says = λ k r. is_meant says abbreviations (map run_meant runs) k (element_of root r);
   price = λ k r. where_cheap runs (element_price (map run_price runs) k (element_of root r));
   span = span_at root;
   lent = runs_loan ∷ moves_loan ∷ [];
 }
 
--- Each run is over a version that follows a tree under its number, or each of some trees.
-abbrev pub AreOver : List RunMeaning → ℕ × Numbered → Type 0
-AreOver runs t = All (λ run. Follows run.version t.0 t.1) runs
+-- Each run is over a version that follows a tree under its number and the abbreviations, or each of some trees.
+abbrev pub AreOver : List (List ℕ) → List RunMeaning → ℕ × Numbered → Type 0
+AreOver abbreviations runs t = All (λ run. Follows abbreviations run.version t.0 t.1) runs
 
-abbrev pub AreOverEach : List RunMeaning → List (ℕ × Numbered) → Type 0
-AreOverEach runs trees = AllByRecursion (AreOver runs) trees
+abbrev pub AreOverEach : List (List ℕ) → List RunMeaning → List (ℕ × Numbered) → Type 0
+AreOverEach abbreviations runs trees = AllByRecursion (AreOver abbreviations runs) trees

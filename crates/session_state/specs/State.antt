@@ -5,21 +5,23 @@ use Rattle.path_meaning.specs.Collection.{Named}
 use Rattle.plan_compiler.specs.NamedLists.{NamedLists, no_lists}
 use Rattle.command_replies.specs.declared.reply.Reply.{Reply}
 
--- a mark: the documents as they were when it was set, under a name
+-- a mark: the documents as they were when it was set, with the abbreviations of then, under a name
 pub record Mark : Type 0 where
   pub name : List ℕ
   pub documents : List Named
+  pub abbreviations : List (List ℕ)
 
--- the documents in the order in which they were loaded, the lists, the marks in the order in which they were set, and the texts of the
--- selections whose plans are kept
+-- the documents in the order in which they were loaded, the keys of the abbreviations, the lists, the marks in the order in which they
+-- were set, and the texts of the selections whose plans are kept
 pub record State : Type 0 where
   pub documents : List Named
+  pub abbreviations : List (List ℕ)
   pub lists : NamedLists
   pub marks : List Mark
   pub kept : Kept
 
 abbrev pub opening : State
-opening = record { documents = []; lists = no_lists; marks = []; kept = nothing_kept }
+opening = record { documents = []; abbreviations = []; lists = no_lists; marks = []; kept = nothing_kept }
 
 -- a state with other documents, and the reply
 abbrev pub with_documents : State → List Named × Reply → State × Reply

@@ -8,7 +8,7 @@ use Rattle.session_state.specs.Held.{Held}
 use Rattle.session_state.specs.State.{State}
 
 abbrev pub state_of : Indexed → NamedLists → State
-state_of held lists = record { documents = held.documents; lists = lists; marks = []; kept = nothing_kept }
+state_of held lists = record { documents = held.documents; abbreviations = held.abbreviations; lists = lists; marks = []; kept = nothing_kept }
 
 abbrev pub held_of : Indexed → NamedLists → Held
 held_of held lists = record { state = state_of held lists; version = held.version; mark_versions = [] }

@@ -13,7 +13,7 @@ use Rattle.command_replies.specs.declared.reply.Reply.{Reply}
 use Rattle.command_replies.specs.declared.reply.Reply.TheVariants.{Refused}
 use Rattle.thesaurus_file.specs.Lines.{thesaurus_of}
 use Rattle.word_lists.specs.Stems.{stems_of}
-use Rattle.word_lists.specs.StopLists.{stop_list_of}
+use Rattle.word_lists.specs.KeySets.{key_set_of}
 use Rattle.session_state.specs.declared.edit.Targets.TheVariants.{Any}
 use Rattle.session_state.specs.declared.shown.Shown.{Shown}
 use Rattle.session_state.specs.declared.shown.Shown.TheVariants.{Names, Texts}
@@ -21,6 +21,7 @@ use Rattle.session_state.specs.DocumentReplies.{load_refusal, removal_refusal, r
 use Rattle.session_state.specs.Edits.{deleted, deletion, inserted_into, replaced, touched_path, touched_with}
 use Rattle.session_state.specs.Explained.{explained}
 use Rattle.session_state.specs.KeptTexts.{keep_plans}
+use Rattle.session_state.specs.Abbreviations.{abbreviations_put}
 use Rattle.session_state.specs.Lists.{stems_put, stop_list_put, thesaurus_put}
 use Rattle.session_state.specs.Marks.{at_mark, mark_named, marked, unmarked}
 use Rattle.session_state.specs.Paths.{answer}
@@ -48,7 +49,8 @@ step says state (command.Drop name) = with_documents state (replied_by (removal_
 step says state (command.Insert how path block) = keep_plans path (inserted_into says state how path block)
 step says state (command.Replace path block) = keep_plans path (replaced says state path block)
 step says state (command.Delete path) = keep_plans path (deleted says state path)
-step says state (command.Stop name block) = with_lists state (stop_list_put state.lists name (stop_list_of block))
+step says state (command.Stop name block) = with_lists state (stop_list_put state.lists name (key_set_of block))
+step says state (command.Abbreviations block) = abbreviations_put state (key_set_of block)
 step says state (command.Stems block) = with_lists state (stems_put state.lists (stems_of block))
 step says state (command.Thesaurus name block) = with_lists state (thesaurus_put state.lists name (thesaurus_of block))
 step says state (command.Query path) = shown says Names state path
@@ -71,6 +73,11 @@ changes_documents (command.Insert how path block) = true
 changes_documents (command.Replace path block) = true
 changes_documents (command.Delete path) = true
 changes_documents _ = false
+
+-- whether a command changes the version of the index: besides those, the one that says where sentences end
+abbrev pub changes_version : Command → Bool
+changes_version (command.Abbreviations block) = true
+changes_version command = changes_documents command
 
 -- whether a command sets a mark or gives one up
 abbrev pub changes_marks : Command → Bool

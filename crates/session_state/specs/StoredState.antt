@@ -14,15 +14,15 @@ use Rattle.session_state.specs.State.{Mark, State}
 
 abbrev mark_code : Coded Mark
 mark_code =
-    code_by (List ℕ × List Named) (coded× bytes_code (coded_list document_code))
-    (λ m. (m.name, m.documents)) (λ p. record { name = p.0; documents = p.1 }) (λ _. refl)
+    code_by (List ℕ × (List Named × List (List ℕ))) (coded× bytes_code (coded× (coded_list document_code) (coded_list bytes_code)))
+    (λ m. (m.name, (m.documents, m.abbreviations))) (λ p. record { name = p.0; documents = p.1.0; abbreviations = p.1.1 }) (λ _. refl)
 
 abbrev state_code : Coded State
 state_code =
-    code_by (List Named × (NamedLists × (List Mark × Kept)))
-    (coded× (coded_list document_code) (coded× lists_code (coded× (coded_list mark_code) kept_code)))
-    (λ s. (s.documents, (s.lists, (s.marks, s.kept))))
-    (λ p. record { documents = p.0; lists = p.1.0; marks = p.1.1.0; kept = p.1.1.1 }) (λ _. refl)
+    code_by (List Named × (List (List ℕ) × (NamedLists × (List Mark × Kept))))
+    (coded× (coded_list document_code) (coded× (coded_list bytes_code) (coded× lists_code (coded× (coded_list mark_code) kept_code))))
+    (λ s. (s.documents, (s.abbreviations, (s.lists, (s.marks, s.kept)))))
+    (λ p. record { documents = p.0; abbreviations = p.1.0; lists = p.1.1.0; marks = p.1.1.1.0; kept = p.1.1.1.1 }) (λ _. refl)
 
 abbrev pub held_code : Coded Held
 held_code =

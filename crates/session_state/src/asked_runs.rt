@@ -11,8 +11,22 @@ use plan_runs::{Judge, Run};
 use std::marker::{Brand, PhantomData};
 use std::sync::ledger::Ledger;
 
-/// What a test is lent: the runs, as they stay, and where the count of steps stands at first. Proofs alone see it.
+/// The abbreviations under which elements are asked. The index keeps where their sentences end, so that proofs alone see them.
+pub(crate) trait Abbreviated {
+    ghost abbreviations: { List (List ℕ) };
+}
+
+impl Abbreviated for Brand {
+    ghost use Rattle.std.specs.Prelude.{[]};
+
+    ghost abbreviations = { [] };
+}
+
+/// What a test is lent: the runs, as they stay, and where the count of steps stands at first; and the abbreviations under which it is
+/// asked. Proofs alone see it.
 pub(crate) trait Loan {
+    ghost abbreviations: { List (List ℕ) };
+
     ghost runs: { List RunMeaning };
 
     ghost moves: { ℕ };
@@ -20,6 +34,8 @@ pub(crate) trait Loan {
 
 impl Loan for Brand {
     ghost use Rattle.std.specs.Prelude.{[]};
+
+    ghost abbreviations = { [] };
 
     ghost runs = { [] };
 
@@ -36,7 +52,7 @@ pub(crate) struct SelectionTest<'j, 't, 'r, 'v, 'm, J: Judge, B: Loan, M: Ledger
     pub(crate) runs: &'r mut [Run<'v>],
     pub(crate) moves: &'m mut Steps<M>,
     pub(crate) loan: PhantomData<B>,
-    ghost over: { AreOver B.runs (doc.0, tree.now.root) },
+    ghost over: { AreOver B.abbreviations B.runs (doc.0, tree.now.root) },
     ghost same: { runs.now ≡ B.runs },
     ghost shifted: { B.moves ≤ moves.now },
 }
@@ -45,7 +61,7 @@ impl<'j, 't, 'r, 'v, 'm, J: Judge, B: Loan, M: Ledger> TextTest
     for SelectionTest<'j, 't, 'r, 'v, 'm, J, B, M> {
     ghost use Rattle.session_state.specs.SelectionTests.{asked_of, where_cheap};
 
-    ghost meaning = { λ test. asked_of J.says B.runs test.tree.now.root test.runs.ghost_name test.moves.ghost_name };
+    ghost meaning = { λ test. asked_of J.says B.abbreviations B.runs test.tree.now.root test.runs.ghost_name test.moves.ghost_name };
 
     ghost cost = { λ test. where_cheap B.runs test.moves.now };
 

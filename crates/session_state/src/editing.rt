@@ -11,6 +11,7 @@ ghost use Rattle.session_state.specs.steps.Chosen.{edit_of, planned_places};
 ghost use Rattle.command_replies.specs.Replies.{is_refusal};
 ghost use Rattle.tree_edits.specs.steps.Acts.{stays as does_stay};
 
+use crate::asked_runs::Abbreviated;
 use crate::edit::{Edit, Targets};
 use crate::planned::{PlannedPath, open_runs};
 use crate::refusing::refuse_edit;
@@ -20,6 +21,7 @@ use command_replies::{Refusal, Reply};
 use ft_base::{Memory, Steps};
 use plain_tree::How;
 use plan_runs::Judge;
+use std::marker::Brand;
 use std::sync::ledger::Ledger;
 
 /// Edits the elements to which a path leads, unless they are none or too many, or it can't be of a root that is among them, or a document
@@ -34,20 +36,22 @@ pub(crate) fn edit_along<J: Judge, L: Ledger, M: Ledger>(
 ) -> Result<Reply, Memory>
     requires { HasItsPlans path.now }
     ensures answer { IfOk result (λ reply. (collection.new.documents, reply)
-        ≡ edit_placed collection.old.documents (edit_of edit.now) (map (planned_places J.says path.now) collection.old.documents)
-        (target_refusal edit.now.targets (edit_of edit.now) (map (planned_places J.says path.now) collection.old.documents))) }
+        ≡ edit_placed collection.old.documents (edit_of edit.now) (map (planned_places J.says collection.old.abbreviations path.now) collection.old.documents)
+        (target_refusal edit.now.targets (edit_of edit.now) (map (planned_places J.says collection.old.abbreviations path.now) collection.old.documents))) }
+    ensures abbreviations { collection.new.abbreviations ≡ collection.old.abbreviations }
     ensures err { OnErr result (collection.new ≡ collection.old) }
     ensures refused { IfOk result (λ reply. is_refusal reply ≡ true → collection.new ≡ collection.old) }
     ensures moves { moves.old ≤ moves.new }
     ensures price { has_cheap_plans path.now ≡ true → moves.new
         ≤ moves.old
-        + prices_in J.says path.now (map (run_over collection.old.version) path.now.plans.now) (documents_of path.now.root.now collection.old.documents) }
+        + prices_in J.says collection.old.abbreviations path.now (map (run_over collection.old.version) path.now.plans.now)
+        (documents_of path.now.root.now collection.old.documents) }
     ensures rows { rows.new
         ≤ rows.old
-        + touched_placed collection.old.documents (edit_of edit.now) (map (planned_places J.says path.now) collection.old.documents)
-        (target_refusal edit.now.targets (edit_of edit.now) (map (planned_places J.says path.now) collection.old.documents)) }
+        + touched_placed collection.old.documents (edit_of edit.now) (map (planned_places J.says collection.old.abbreviations path.now) collection.old.documents)
+        (target_refusal edit.now.targets (edit_of edit.now) (map (planned_places J.says collection.old.abbreviations path.now) collection.old.documents)) }
 {
-    match choose_along(judge, collection, path, moves) {
+    match choose_along::<J, Brand, M>(judge, collection, path, moves) {
         Ok(chosen) => {
             let edited = edit_chosen(collection, edit, &chosen, rows);
             drop(chosen);
@@ -58,26 +62,30 @@ pub(crate) fn edit_along<J: Judge, L: Ledger, M: Ledger>(
 }
 
 /// The elements to which a path leads. A run of each of its plans is opened once, over the version of the index.
-fn choose_along<J: Judge, M: Ledger>(
+fn choose_along<J: Judge, A: Abbreviated, M: Ledger>(
     judge: &J,
     collection: &Collection,
     path: &PlannedPath<'_>,
     moves: &mut Steps<M>,
 ) -> Result<Chosen, Memory>
-    requires { HasItsPlans path.now }
+    requires plans { HasItsPlans path.now }
+    requires abbreviations { collection.now.abbreviations ≡ A.abbreviations }
     ensures there { IfOk result (λ chosen. AreTargets collection.now.trees chosen.refs) }
     ensures places { IfOk result (λ chosen. places_of_targets collection.now.trees chosen.refs
-        ≡ map (planned_places J.says path.now) collection.now.documents) }
-    ensures count { IfOk result (λ chosen. chosen.count ≡ target_count (map (planned_places J.says path.now) collection.now.documents)) }
-    ensures rooted { IfOk result (λ chosen. chosen.has_root ≡ has_root (map (planned_places J.says path.now) collection.now.documents)) }
+        ≡ map (planned_places J.says A.abbreviations path.now) collection.now.documents) }
+    ensures count { IfOk result (λ chosen. chosen.count
+        ≡ target_count (map (planned_places J.says A.abbreviations path.now) collection.now.documents)) }
+    ensures rooted { IfOk result (λ chosen. chosen.has_root
+        ≡ has_root (map (planned_places J.says A.abbreviations path.now) collection.now.documents)) }
     ensures moves { moves.old ≤ moves.new }
     ensures price { has_cheap_plans path.now ≡ true → moves.new
         ≤ moves.old
-        + prices_in J.says path.now (map (run_over collection.now.version) path.now.plans.now) (documents_of path.now.root.now collection.now.documents) }
+        + prices_in J.says A.abbreviations path.now (map (run_over collection.now.version) path.now.plans.now)
+        (documents_of path.now.root.now collection.now.documents) }
 {
     let documents = collection.documents();
     let mut runs = open_runs(path.alloc, path.plans, collection.version())?;
-    let chosen = choose(judge, documents, path, runs.as_mut_slice(), moves);
+    let chosen = choose::<J, A, M>(judge, documents, path, runs.as_mut_slice(), moves);
     drop(runs);
     chosen
 }
@@ -95,6 +103,7 @@ fn edit_chosen<L: Ledger>(
     ensures answer { IfOk result (λ reply. (collection.new.documents, reply)
         ≡ edit_placed collection.old.documents (edit_of edit.now) (places_of_targets collection.old.trees chosen.now.refs)
         (target_refusal edit.now.targets (edit_of edit.now) (places_of_targets collection.old.trees chosen.now.refs))) }
+    ensures abbreviations { collection.new.abbreviations ≡ collection.old.abbreviations }
     ensures err { OnErr result (collection.new ≡ collection.old) }
     ensures refused { IfOk result (λ reply. is_refusal reply ≡ true → collection.new ≡ collection.old) }
     ensures rows { rows.new
@@ -121,6 +130,7 @@ fn edit_within<L: Ledger>(
     requires accepted { targets_refused edit.now.targets edit.now.how chosen.now.count chosen.now.has_root ≡ None }
     ensures answer { IfOk result (λ reply. (collection.new.documents, reply)
         ≡ replied_by edit_refusal (edited_within (edit_of edit.now) (places_of_targets collection.old.trees chosen.now.refs) collection.old.documents)) }
+    ensures abbreviations { collection.new.abbreviations ≡ collection.old.abbreviations }
     ensures err { OnErr result (collection.new ≡ collection.old) }
     ensures refused { IfOk result (λ reply. is_refusal reply ≡ true → collection.new ≡ collection.old) }
     ensures rows { rows.new

@@ -1,7 +1,8 @@
-//! Commands that change what a session holds and have no path: they bring documents, lists and marks, and take them away.
+//! Commands that change what a session holds and have no path: they bring documents, abbreviations, lists and marks, and take them away.
 
 ghost use Rattle.std.specs.Prelude.{◌≡◌, ◌≤◌, ◌+◌, IfOk, OnErr, true};
 ghost use Rattle.collections.specs.Documents.{dropped, loadable, loaded, tokens_loaded, tokens_named};
+ghost use Rattle.session_state.specs.Abbreviations.{abbreviations_put};
 ghost use Rattle.session_state.specs.DocumentReplies.{load_refusal, removal_refusal, replied_by};
 ghost use Rattle.session_state.specs.Lists.{stems_put, stop_list_put, thesaurus_put};
 ghost use Rattle.session_state.specs.Marks.{marked, unmarked};
@@ -11,9 +12,9 @@ ghost use Rattle.session_state.specs.Step.{with_lists};
 ghost use Rattle.command_replies.specs.Replies.{is_refusal};
 ghost use Rattle.thesaurus_file.specs.Lines.{thesaurus_of};
 ghost use Rattle.word_lists.specs.Stems.{stems_of};
-ghost use Rattle.word_lists.specs.StopLists.{stop_list_of};
+ghost use Rattle.word_lists.specs.KeySets.{key_set_of};
 
-use crate::lists::{put_stems, put_stop_list, put_thesaurus};
+use crate::lists::{put_stems, put_stop_list, put_thesaurus, refuse_list};
 use crate::refusing::{refuse_load, refuse_removal};
 use crate::session::Session;
 use crate::stats::counts;
@@ -21,6 +22,7 @@ use command_replies::Reply;
 use ft_base::{Line, Memory, Steps};
 use plan_runs::Judge;
 use std::sync::ledger::Ledger;
+use word_lists::KeySet;
 
 impl<J: Judge + Drop> Session<J> {
     /// Loads the block as a document under the name.
@@ -64,10 +66,26 @@ impl<J: Judge + Drop> Session<J> {
         }
     }
 
+    /// Puts the abbreviations that the block lists in the place of those that are there. Plans that are kept and marks stay as they are.
+    pub(crate) fn set_abbreviations(&mut self, block: &[u8]) -> Result<Reply, Memory>
+        ensures answer { IfOk result (λ reply. (self.new.state, reply) ≡ abbreviations_put self.old.state (key_set_of block.now)) }
+        ensures err { OnErr result (self.new ≡ self.old) }
+        ensures version_refused { IfOk result (λ reply. is_refusal reply ≡ true → self.new.version ≡ self.old.version) }
+        ensures mark_versions { self.new.mark_versions ≡ self.old.mark_versions }
+    {
+        match KeySet::read(self.alloc, block) {
+            Ok(keys) => {
+                self.collection.set_abbreviations(keys)?;
+                Ok(Reply::Done)
+            }
+            Err(fault) => refuse_list(fault),
+        }
+    }
+
     /// Puts the stop list that the block is under the name.
     pub(crate) fn put_stops(&mut self, name: &str, block: &[u8]) -> Result<Reply, Memory>
         ensures answer { IfOk result (λ reply. (self.new.state, reply)
-            ≡ with_lists self.old.state (stop_list_put self.old.state.lists name.now (stop_list_of block.now))) }
+            ≡ with_lists self.old.state (stop_list_put self.old.state.lists name.now (key_set_of block.now))) }
         ensures err { OnErr result (self.new ≡ self.old) }
         ensures version { self.new.version ≡ self.old.version }
         ensures mark_versions { self.new.mark_versions ≡ self.old.mark_versions }

@@ -21,15 +21,15 @@ ghost use Rattle.session_state.specs.Step.{step};
 pub fn query_law()
     ensures { (says : Judgement) (state : State) (text : List ℕ) (p : PathForm) → Ok p ≡ path_read text → IsAnswered state p
         → (step says state (Query text)).1 ≡ Nodes (flat_map
-        (λ (d : Named). map (element_line d.name d.root) (selected_in says state.lists p d.root))
+        (λ (d : Named). map (element_line d.name d.root) (selected_in says state.abbreviations state.lists p d.root))
         (documents p.path.root state.documents)) }
 {}
 
 /// Those elements of a document are the ones that pass a test, in document order, each once.
 pub fn selected_law()
     ensures members { (says : Judgement) (state : State) (p : PathForm) (d : Named)
-        → (q : Element → Bool) × (selected_in says state.lists p d.root ≡ filter q (elements d.root)) }
-    ensures order { (says : Judgement) (state : State) (p : PathForm) (d : Named) → AllPairs Before (selected_in says state.lists p d.root) }
+        → (q : Element → Bool) × (selected_in says state.abbreviations state.lists p d.root ≡ filter q (elements d.root)) }
+    ensures order { (says : Judgement) (state : State) (p : PathForm) (d : Named) → AllPairs Before (selected_in says state.abbreviations state.lists p d.root) }
 {}
 
 /// A command that is refused leaves the state as it is, whatever the judge says.

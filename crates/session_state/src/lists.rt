@@ -3,7 +3,7 @@
 ghost use Rattle.std.specs.Prelude.{◌≡◌, IfOk, OnErr};
 ghost use Rattle.thesaurus_file.specs.Lines.{thesaurus_of};
 ghost use Rattle.word_lists.specs.Stems.{stems_of};
-ghost use Rattle.word_lists.specs.StopLists.{stop_list_of};
+ghost use Rattle.word_lists.specs.KeySets.{key_set_of};
 ghost use Rattle.session_state.specs.Lists.{with_prepared, Answers, stems_put, stop_list_put, thesaurus_put};
 
 use command_replies::{FullOf, Refusal, Reply};
@@ -11,7 +11,7 @@ use ft_base::{ListFault, MAX_LISTS, Memory};
 use kept_plans::Prepared;
 use std::alloc::Global;
 use thesaurus_file::Thesaurus;
-use word_lists::{Stems, StopList};
+use word_lists::{KeySet, Stems};
 
 /// Puts the stop list that the block is under the name, unless the name is new and there are as many as there may be, or the
 /// block is no stop list.
@@ -22,19 +22,19 @@ pub(crate) fn put_stop_list(
     block: &[u8],
 ) -> Result<Reply, Memory>
     ensures answer { IfOk result (λ reply. (prepared.new, reply)
-        ≡ with_prepared prepared.old (stop_list_put prepared.old.lists name.now (stop_list_of block.now))) }
+        ≡ with_prepared prepared.old (stop_list_put prepared.old.lists name.now (key_set_of block.now))) }
     ensures err { OnErr result (prepared.new ≡ prepared.old) }
 {
     if !prepared.lists().has_stop(name) && prepared.lists().stop_count() >= MAX_LISTS {
         let what = FullOf::StopLists;
         return Ok(Reply::Refused(Refusal::Full { what }));
     }
-    match StopList::read(alloc, block) {
+    match KeySet::read(alloc, block) {
         Ok(list) => {
             prepared.set_stop(name, list)?;
             Ok(Reply::Done)
         }
-        Err(fault) => refuse(fault),
+        Err(fault) => refuse_list(fault),
     }
 }
 
@@ -59,7 +59,7 @@ pub(crate) fn put_thesaurus(
             prepared.set_thesaurus(name, list)?;
             Ok(Reply::Done)
         }
-        Err(fault) => refuse(fault),
+        Err(fault) => refuse_list(fault),
     }
 }
 
@@ -77,12 +77,12 @@ pub(crate) fn put_stems(
             prepared.set_stems(stems)?;
             Ok(Reply::Done)
         }
-        Err(fault) => refuse(fault),
+        Err(fault) => refuse_list(fault),
     }
 }
 
 /// The refusal of a block that is no list. Want of memory is none.
-fn refuse(fault: ListFault) -> Result<Reply, Memory>
+pub(crate) fn refuse_list(fault: ListFault) -> Result<Reply, Memory>
     ensures { IfOk result (λ reply. Answers fault reply) }
 {
     match fault {

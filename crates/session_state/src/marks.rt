@@ -47,7 +47,7 @@ impl Marks {
         }
     }
 
-    /// How many marks there are. The version of each is the index of its documents.
+    /// How many marks there are. The version of each is the index of its documents under its abbreviations.
     pub(crate) fn len(&self) -> usize
         ensures len { result ≡ length self.now }
         ensures indexed { AreIndexesOf (marks_of self.now) (versions_of self.now) }
@@ -64,7 +64,8 @@ impl Marks {
 
     /// Keeps the collection as it is under the name, unless there is a mark of that name or there are as many as there may be.
     pub(crate) fn put(&mut self, name: &Line, collection: &Collection) -> Result<Reply, Memory>
-        ensures answer { IfOk result (λ reply. (marks_of self.new, reply) ≡ mark_put (marks_of self.old) name.now collection.now.documents) }
+        ensures answer { IfOk result (λ reply. (marks_of self.new, reply)
+            ≡ mark_put (marks_of self.old) name.now collection.now.documents collection.now.abbreviations) }
         ensures err { OnErr result (self.new ≡ self.old) }
         ensures refused { IfOk result (λ reply. is_refusal reply ≡ true → self.new ≡ self.old) }
     {
@@ -86,7 +87,7 @@ impl Marks {
         ensures entries { OnOk result (self.new ≡ self.old ++ (name, collection.now) ∷ []) }
         ensures err { OnErr result (self.new ≡ self.old) }
     {
-        // The version is the index of the documents, as the clauses of `documents` say.
+        // The version is the index of the documents under the abbreviations, as the clauses of `documents` say.
         let _documents = collection.documents();
         let Ok(copy) = collection.copy() else {
             drop(name);

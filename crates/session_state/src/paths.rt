@@ -18,6 +18,7 @@ ghost use Rattle.session_state.specs.PlannedPaths.{planned_lines, plans_under, p
 ghost use Rattle.session_state.specs.ReadyPaths.{kept_for, path_refusal, IsReady, IsRefused};
 ghost use Rattle.session_state.specs.StateView.{held_of, state_of};
 
+use crate::asked_runs::Abbreviated;
 use crate::keeping::keep_accepted;
 use crate::planned::{PlannedPath, open_runs, plan_selections};
 use crate::selected::collect_lines;
@@ -31,6 +32,7 @@ use path_subset::{ReadPath, read_path};
 use plan_compiler::CompileFault;
 use plan_runs::Judge;
 use std::alloc::Global;
+use std::marker::Brand;
 use std::sync::ledger::Ledger;
 
 /// A path with a plan for each of its selections, and what is kept of plans once the command is accepted that goes along it.
@@ -219,7 +221,13 @@ pub(crate) fn answer_path<J: Judge, M: Ledger>(
 {
     match ready_path(alloc, collection, prepared, text) {
         Ok(Ready::Path(ready)) => {
-            let answered = answer_planned(judge, collection, shown, &ready.planned(), moves);
+            let answered = answer_planned::<J, Brand, M>(
+                judge,
+                collection,
+                shown,
+                &ready.planned(),
+                moves,
+            );
             keep_accepted(prepared, ready, answered)
         }
         Ok(Ready::Refused(why)) => Ok(Reply::Refused(why)),
@@ -229,25 +237,34 @@ pub(crate) fn answer_path<J: Judge, M: Ledger>(
 
 /// The reply to a path by its plans. A run of each is opened once, over the version of the index, and with it the judge is asked of
 /// the elements.
-fn answer_planned<J: Judge, M: Ledger>(
+fn answer_planned<J: Judge, A: Abbreviated, M: Ledger>(
     judge: &J,
     collection: &Collection,
     shown: Shown,
     planned: &PlannedPath<'_>,
     moves: &mut Steps<M>,
 ) -> Result<Reply, Memory>
-    requires { HasItsPlans planned.now }
+    requires plans { HasItsPlans planned.now }
+    requires abbreviations { collection.now.abbreviations ≡ A.abbreviations }
     ensures reply { IfOk result (λ reply. reply
-        ≡ paths.reply_with shown (flat_map (planned_lines J.says shown planned.now) (documents_of planned.now.root.now collection.now.documents))) }
+        ≡ paths.reply_with shown (flat_map (planned_lines J.says A.abbreviations shown planned.now)
+        (documents_of planned.now.root.now collection.now.documents))) }
     ensures moves { moves.old ≤ moves.new }
     ensures price { has_cheap_plans planned.now ≡ true → moves.new
         ≤ moves.old
-        + prices_in J.says planned.now (map (run_over collection.now.version) planned.now.plans.now)
+        + prices_in J.says A.abbreviations planned.now (map (run_over collection.now.version) planned.now.plans.now)
         (documents_of planned.now.root.now collection.now.documents) }
 {
     let documents = collection.documents();
     let mut runs = open_runs(planned.alloc, planned.plans, collection.version())?;
-    let lines = collect_lines(judge, documents, shown, planned, runs.as_mut_slice(), moves);
+    let lines = collect_lines::<J, A, M>(
+        judge,
+        documents,
+        shown,
+        planned,
+        runs.as_mut_slice(),
+        moves,
+    );
     drop(runs);
     match lines {
         Ok(lines) => Ok(reply_with(shown, lines)),

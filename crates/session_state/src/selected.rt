@@ -10,7 +10,7 @@ ghost use Rattle.session_state.specs.PlannedPaths.{planned_in, planned_lines, pl
 ghost use Rattle.session_state.specs.SelectionTests.{AreOver, AreOverEach};
 ghost use Rattle.collections.specs.Loaded.{to_document, trees_of};
 
-use crate::asked_runs::{Loan, SelectionTest, look_up};
+use crate::asked_runs::{Abbreviated, Loan, SelectionTest, look_up};
 use crate::planned::PlannedPath;
 use crate::shown::Shown;
 use collections::{Documents, Loaded};
@@ -27,7 +27,7 @@ use text_list::TextList;
 
 /// The lines of the elements that the path selects, document by document. The runs are those of its plans, over a version that
 /// follows the documents.
-pub(crate) fn collect_lines<J: Judge, M: Ledger>(
+pub(crate) fn collect_lines<J: Judge, A: Abbreviated, M: Ledger>(
     judge: &J,
     documents: &Documents,
     shown: Shown,
@@ -37,22 +37,24 @@ pub(crate) fn collect_lines<J: Judge, M: Ledger>(
 ) -> Result<TextList, Memory>
     requires plans { HasItsPlans path.now }
     requires runs { AreRunsOf path.now runs.old }
-    requires over { AreOverEach runs.old (trees_of documents.now) }
+    requires over { AreOverEach A.abbreviations runs.old (trees_of documents.now) }
     ensures lines { IfOk result (λ lines. lines
-        ≡ flat_map (planned_lines J.says shown path.now) (documents_of path.now.root.now (map to_document documents.now))) }
+        ≡ flat_map (planned_lines J.says A.abbreviations shown path.now) (documents_of path.now.root.now (map to_document documents.now))) }
     ensures moves { moves.old ≤ moves.new }
     ensures price { has_cheap_plans path.now ≡ true → moves.new
         ≤ moves.old
-        + prices_in J.says path.now runs.old (documents_of path.now.root.now (map to_document documents.now)) }
+        + prices_in J.says A.abbreviations path.now runs.old (documents_of path.now.root.now (map to_document documents.now)) }
 {
     match path.root {
-        PathRoot::Collection => collect_all(judge, documents, shown, path, runs, moves),
-        PathRoot::Doc(name) => collect_one(judge, documents, name, shown, path, runs, moves),
+        PathRoot::Collection => collect_all::<J, A, M>(judge, documents, shown, path, runs, moves),
+        PathRoot::Doc(name) => collect_one::<J, A, M>(
+            judge, documents, name, shown, path, runs, moves,
+        ),
     }
 }
 
 /// The lines of all documents, in their order.
-fn collect_all<J: Judge, M: Ledger>(
+fn collect_all<J: Judge, A: Abbreviated, M: Ledger>(
     judge: &J,
     documents: &Documents,
     shown: Shown,
@@ -62,14 +64,15 @@ fn collect_all<J: Judge, M: Ledger>(
 ) -> Result<TextList, Memory>
     requires plans { HasItsPlans path.now }
     requires runs { AreRunsOf path.now runs.old }
-    requires over { AreOverEach runs.old (trees_of documents.now) }
-    ensures lines { IfOk result (λ lines. lines ≡ flat_map (planned_lines J.says shown path.now) (map to_document documents.now)) }
+    requires over { AreOverEach A.abbreviations runs.old (trees_of documents.now) }
+    ensures lines { IfOk result (λ lines. lines ≡ flat_map (planned_lines J.says A.abbreviations shown path.now) (map to_document documents.now)) }
     ensures moves { moves.old ≤ moves.new }
-    ensures price { has_cheap_plans path.now ≡ true → moves.new ≤ moves.old + prices_in J.says path.now runs.old (map to_document documents.now) }
+    ensures price { has_cheap_plans path.now ≡ true
+        → moves.new ≤ moves.old + prices_in J.says A.abbreviations path.now runs.old (map to_document documents.now) }
 {
     let mut lines = TextList::new(path.alloc);
     for (name, document) in documents.iter() {
-        let found = select(judge, document, path, runs, moves)?;
+        let found = select::<J, A, M>(judge, document, path, runs, moves)?;
         push_lines(
             path.alloc,
             name.as_str(),
@@ -83,7 +86,7 @@ fn collect_all<J: Judge, M: Ledger>(
 }
 
 /// The lines of the document of that name, if there is one.
-fn collect_one<J: Judge, M: Ledger>(
+fn collect_one<J: Judge, A: Abbreviated, M: Ledger>(
     judge: &J,
     documents: &Documents,
     name: &Line,
@@ -94,24 +97,32 @@ fn collect_one<J: Judge, M: Ledger>(
 ) -> Result<TextList, Memory>
     requires plans { HasItsPlans path.now }
     requires runs { AreRunsOf path.now runs.old }
-    requires over { AreOverEach runs.old (trees_of documents.now) }
+    requires over { AreOverEach A.abbreviations runs.old (trees_of documents.now) }
     ensures lines { IfOk result (λ lines. lines
-        ≡ flat_map (planned_lines J.says shown path.now) (documents_of (roots.Doc name.now) (map to_document documents.now))) }
+        ≡ flat_map (planned_lines J.says A.abbreviations shown path.now) (documents_of (roots.Doc name.now) (map to_document documents.now))) }
     ensures moves { moves.old ≤ moves.new }
     ensures price { has_cheap_plans path.now ≡ true → moves.new
         ≤ moves.old
-        + prices_in J.says path.now runs.old (documents_of (roots.Doc name.now) (map to_document documents.now)) }
+        + prices_in J.says A.abbreviations path.now runs.old (documents_of (roots.Doc name.now) (map to_document documents.now)) }
 {
     // No two documents have one name, as the clauses of `iter` say.
     let _entries = documents.iter();
     match documents.get(name) {
-        Some(document) => collect_from(judge, name.as_str(), document, shown, path, runs, moves),
+        Some(document) => collect_from::<J, A, M>(
+            judge,
+            name.as_str(),
+            document,
+            shown,
+            path,
+            runs,
+            moves,
+        ),
         None => Ok(TextList::new(path.alloc)),
     }
 }
 
 /// The lines of one document.
-fn collect_from<J: Judge, M: Ledger>(
+fn collect_from<J: Judge, A: Abbreviated, M: Ledger>(
     judge: &J,
     name: &str,
     document: &Loaded,
@@ -122,12 +133,13 @@ fn collect_from<J: Judge, M: Ledger>(
 ) -> Result<TextList, Memory>
     requires plans { HasItsPlans path.now }
     requires runs { AreRunsOf path.now runs.old }
-    requires over { AreOver runs.old (document.now.doc.0, document.now.tree.root) }
-    ensures lines { IfOk result (λ lines. lines ≡ planned_lines J.says shown path.now (to_document (name.now, document.now))) }
+    requires over { AreOver A.abbreviations runs.old (document.now.doc.0, document.now.tree.root) }
+    ensures lines { IfOk result (λ lines. lines ≡ planned_lines J.says A.abbreviations shown path.now (to_document (name.now, document.now))) }
     ensures moves { moves.old ≤ moves.new }
-    ensures price { has_cheap_plans path.now ≡ true → moves.new ≤ moves.old + planned_price J.says path.now runs.old (plain document.now.tree.root) }
+    ensures price { has_cheap_plans path.now ≡ true
+        → moves.new ≤ moves.old + planned_price J.says A.abbreviations path.now runs.old (plain document.now.tree.root) }
 {
-    let found = select(judge, document, path, runs, moves)?;
+    let found = select::<J, A, M>(judge, document, path, runs, moves)?;
     let mut lines = TextList::new(path.alloc);
     push_lines(
         path.alloc,
@@ -160,7 +172,7 @@ fn push_lines(
 }
 
 /// The elements of a document that the path selects.
-pub(crate) fn select<J: Judge, M: Ledger>(
+pub(crate) fn select<J: Judge, A: Abbreviated, M: Ledger>(
     judge: &J,
     document: &Loaded,
     path: &PlannedPath<'_>,
@@ -169,12 +181,14 @@ pub(crate) fn select<J: Judge, M: Ledger>(
 ) -> Result<Vec<NodeRef>, Memory>
     requires plans { HasItsPlans path.now }
     requires runs { AreRunsOf path.now runs.old }
-    requires over { AreOver runs.old (document.now.doc.0, document.now.tree.root) }
-    ensures elements { IfOk result (λ found. map (element_of document.now.tree.root) found.items ≡ planned_in J.says path.now (plain document.now.tree.root)) }
+    requires over { AreOver A.abbreviations runs.old (document.now.doc.0, document.now.tree.root) }
+    ensures elements { IfOk result (λ found. map (element_of document.now.tree.root) found.items
+        ≡ planned_in J.says A.abbreviations path.now (plain document.now.tree.root)) }
     ensures there { IfOk result (λ found. All (IsElement document.now.tree.root) found.items) }
     ensures runs { runs.new ≡ runs.old }
     ensures moves { moves.old ≤ moves.new }
-    ensures price { has_cheap_plans path.now ≡ true → moves.new ≤ moves.old + planned_price J.says path.now runs.old (plain document.now.tree.root) }
+    ensures price { has_cheap_plans path.now ≡ true
+        → moves.new ≤ moves.old + planned_price J.says A.abbreviations path.now runs.old (plain document.now.tree.root) }
 {
     look_up(runs, document.doc());
     select_with::<J, Brand, M>(judge, document, path, runs, moves)
@@ -190,14 +204,16 @@ fn select_with<J: Judge, B: Loan, M: Ledger>(
 ) -> Result<Vec<NodeRef>, Memory>
     requires plans { HasItsPlans path.now }
     requires runs { AreRunsOf path.now runs.old }
-    requires over { AreOver runs.old (document.now.doc.0, document.now.tree.root) }
+    requires over { AreOver B.abbreviations runs.old (document.now.doc.0, document.now.tree.root) }
     requires lent_runs { runs.old ≡ B.runs }
     requires lent_moves { moves.old ≡ B.moves }
-    ensures elements { IfOk result (λ found. map (element_of document.now.tree.root) found.items ≡ planned_in J.says path.now (plain document.now.tree.root)) }
+    ensures elements { IfOk result (λ found. map (element_of document.now.tree.root) found.items
+        ≡ planned_in J.says B.abbreviations path.now (plain document.now.tree.root)) }
     ensures there { IfOk result (λ found. All (IsElement document.now.tree.root) found.items) }
     ensures runs { runs.new ≡ runs.old }
     ensures moves { moves.old ≤ moves.new }
-    ensures price { has_cheap_plans path.now ≡ true → moves.new ≤ moves.old + planned_price J.says path.now runs.old (plain document.now.tree.root) }
+    ensures price { has_cheap_plans path.now ≡ true
+        → moves.new ≤ moves.old + planned_price J.says B.abbreviations path.now runs.old (plain document.now.tree.root) }
 {
     // The root is an element, as the clauses of `root` say.
     let tree = document.tree();

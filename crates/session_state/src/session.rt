@@ -10,7 +10,7 @@ ghost use Rattle.session_state.specs.PathPrices.{asks_cheaply, is_cheap_path, mo
 ghost use Rattle.path_subset.specs.Answer.{path_read};
 ghost use Rattle.session_state.specs.ReadyPaths.{IsReadyPath};
 ghost use Rattle.session_state.specs.StateView.{prepared_of};
-ghost use Rattle.session_state.specs.Step.{changes_documents, changes_marks, has_path, rows_for, shown as shown_by, shown_at, step};
+ghost use Rattle.session_state.specs.Step.{changes_documents, changes_marks, changes_version, has_path, rows_for, shown as shown_by, shown_at, step};
 ghost use Rattle.session_state.specs.steps.Chosen.{edit_of};
 ghost use Rattle.command_replies.specs.Replies.{is_refusal};
 
@@ -33,8 +33,8 @@ use std::alloc::Global;
 use std::marker::Model;
 use std::sync::ledger::Ledger;
 
-/// The documents of a session by their names, in the order in which they were loaded, with their index; the lists that
-/// selections name, and the plans that are kept under them; the marks; and the judge that says whether the words of an element
+/// The documents of a session by their names, in the order in which they were loaded, with the abbreviations and their index; the lists
+/// that selections name, and the plans that are kept under them; the marks; and the judge that says whether the words of an element
 /// satisfy a selection.
 #[derive(Drop)]
 pub struct Session<J: Judge + Drop> {
@@ -57,6 +57,7 @@ impl<J: Judge + Drop> Model for Session<J> {
     ghost view = { λ session. record {
       state = record {
         documents = session.collection.documents;
+        abbreviations = session.collection.abbreviations;
         lists = session.prepared.lists;
         marks = marks_of session.marks;
         kept = session.prepared.kept;
@@ -88,7 +89,7 @@ impl<J: Judge + Drop> Session<J> {
 
     /// Does what the command says, and answers it; of each `contains text` of a path the judge is asked. A refused command
     /// changes nothing, nor does one for which memory runs out. Whatever the answer, the version that the session holds is
-    /// then the index of its documents, and that of each mark the index of the mark's.
+    /// then the index of its documents under its abbreviations, and that of each mark the index of the mark's under the mark's.
     ///
     /// `moves` counts the steps of the cursors by which commands with a path answer `contains text`: where all selections of the path are
     /// cheap, no more than what the tests for which it asks cost. `rows` counts the rows of the index that are put and taken.
@@ -101,7 +102,7 @@ impl<J: Judge + Drop> Session<J> {
         ensures answer { IfOk result (λ reply. (self.new.state, reply) ≡ step J.says self.old.state command.now) }
         ensures err { OnErr result (self.new ≡ self.old) }
         ensures refused { IfOk result (λ reply. is_refusal reply ≡ true → self.new ≡ self.old) }
-        ensures indexed { IsIndexOf self.new.state.documents self.new.version }
+        ensures indexed { IsIndexOf self.new.state.abbreviations self.new.state.documents self.new.version }
         ensures marked { AreIndexesOf self.new.state.marks self.new.mark_versions }
         ensures moves { moves.old ≤ moves.new }
         ensures moves_most { asks_cheaply self.old.state.lists command.now ≡ true
@@ -111,7 +112,7 @@ impl<J: Judge + Drop> Session<J> {
         ensures rows_kept { changes_documents command.now ≡ false → rows.new ≡ rows.old }
     {
         let reply = self.carry_out(command, moves, rows);
-        // The versions are the indexes of the documents, as the clauses of these two say.
+        // The versions are the indexes of the documents under their abbreviations, as the clauses of these two say.
         let _documents = self.collection.documents();
         let _marks = self.marks.len();
         reply
@@ -127,8 +128,8 @@ impl<J: Judge + Drop> Session<J> {
     ) -> Result<Reply, Memory>
         ensures answer { IfOk result (λ reply. (self.new.state, reply) ≡ step J.says self.old.state command.now) }
         ensures err { OnErr result (self.new ≡ self.old) }
-        ensures version { changes_documents command.now ≡ false → self.new.version ≡ self.old.version }
-        ensures version_refused { changes_documents command.now ≡ true
+        ensures version { changes_version command.now ≡ false → self.new.version ≡ self.old.version }
+        ensures version_refused { changes_version command.now ≡ true
             → IfOk result (λ reply. is_refusal reply ≡ true → self.new.version ≡ self.old.version) }
         ensures mark_versions { changes_marks command.now ≡ false → self.new.mark_versions ≡ self.old.mark_versions }
         ensures mark_versions_refused { changes_marks command.now ≡ true
@@ -152,6 +153,7 @@ impl<J: Judge + Drop> Session<J> {
             Command::Delete { path } => self.delete(path.as_str(), moves, rows),
             Command::Stop { name, block } => self.put_stops(name.as_str(), block.as_slice()),
             Command::Stems { block } => self.put_stems(block.as_slice()),
+            Command::Abbreviations { block } => self.set_abbreviations(block.as_slice()),
             Command::Thesaurus { name, block } => {
                 self.put_thesaurus(name.as_str(), block.as_slice())
             }

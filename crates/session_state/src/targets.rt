@@ -12,6 +12,7 @@ ghost use Rattle.session_state.specs.SelectionTests.{AreOver, AreOverEach};
 ghost use Rattle.tree_edits.specs.Edits.{is_among as among};
 ghost use Rattle.session_state.specs.steps.Chosen.{planned_places, price_through, prices_through, AreLedTo, AreLedToEach};
 
+use crate::asked_runs::Abbreviated;
 use crate::planned::PlannedPath;
 use crate::selected::select;
 use collections::{Documents, Loaded};
@@ -31,7 +32,7 @@ pub(crate) struct Chosen {
 
 /// The elements that the path selects, document by document. The runs are those of its plans, over a version that follows the
 /// documents.
-pub(crate) fn choose<J: Judge, M: Ledger>(
+pub(crate) fn choose<J: Judge, A: Abbreviated, M: Ledger>(
     judge: &J,
     documents: &Documents,
     path: &PlannedPath<'_>,
@@ -40,12 +41,15 @@ pub(crate) fn choose<J: Judge, M: Ledger>(
 ) -> Result<Chosen, Memory>
     requires plans { HasItsPlans path.now }
     requires runs { AreRunsOf path.now runs.old }
-    requires over { AreOverEach runs.old (trees_of documents.now) }
-    ensures refs { IfOk result (λ chosen. AreLedToEach J.says path.now documents.now chosen.refs) }
-    ensures count { IfOk result (λ chosen. chosen.count ≡ target_count (map (planned_places J.says path.now) (map to_document documents.now))) }
-    ensures rooted { IfOk result (λ chosen. chosen.has_root ≡ has_root (map (planned_places J.says path.now) (map to_document documents.now))) }
+    requires over { AreOverEach A.abbreviations runs.old (trees_of documents.now) }
+    ensures refs { IfOk result (λ chosen. AreLedToEach J.says A.abbreviations path.now documents.now chosen.refs) }
+    ensures count { IfOk result (λ chosen. chosen.count
+        ≡ target_count (map (planned_places J.says A.abbreviations path.now) (map to_document documents.now))) }
+    ensures rooted { IfOk result (λ chosen. chosen.has_root
+        ≡ has_root (map (planned_places J.says A.abbreviations path.now) (map to_document documents.now))) }
     ensures moves { moves.old ≤ moves.new }
-    ensures price { has_cheap_plans path.now ≡ true → moves.new ≤ moves.old + prices_through J.says path.now runs.old (map to_document documents.now) }
+    ensures price { has_cheap_plans path.now ≡ true
+        → moves.new ≤ moves.old + prices_through J.says A.abbreviations path.now runs.old (map to_document documents.now) }
 {
     let mut chosen = Chosen {
         refs: Items::new(path.alloc),
@@ -53,14 +57,14 @@ pub(crate) fn choose<J: Judge, M: Ledger>(
         has_root: false,
     };
     for (name, document) in documents.iter() {
-        let found = choose_in(judge, name, document, path, runs, moves)?;
+        let found = choose_in::<J, A, M>(judge, name, document, path, runs, moves)?;
         chosen.add(document, found)?;
     }
     Ok(chosen)
 }
 
 /// The elements of one document that the path selects; there are none where it doesn't lead through the document.
-fn choose_in<J: Judge, M: Ledger>(
+fn choose_in<J: Judge, A: Abbreviated, M: Ledger>(
     judge: &J,
     name: &Line,
     document: &Loaded,
@@ -70,16 +74,17 @@ fn choose_in<J: Judge, M: Ledger>(
 ) -> Result<NodeRefs, Memory>
     requires plans { HasItsPlans path.now }
     requires runs { AreRunsOf path.now runs.old }
-    requires over { AreOver runs.old (document.now.doc.0, document.now.tree.root) }
-    ensures led { IfOk result (AreLedTo J.says path.now (name.now, document.now)) }
+    requires over { AreOver A.abbreviations runs.old (document.now.doc.0, document.now.tree.root) }
+    ensures led { IfOk result (AreLedTo J.says A.abbreviations path.now (name.now, document.now)) }
     ensures runs { runs.new ≡ runs.old }
     ensures moves { moves.old ≤ moves.new }
-    ensures price { has_cheap_plans path.now ≡ true → moves.new ≤ moves.old + price_through J.says path.now runs.old (to_document (name.now, document.now)) }
+    ensures price { has_cheap_plans path.now ≡ true
+        → moves.new ≤ moves.old + price_through J.says A.abbreviations path.now runs.old (to_document (name.now, document.now)) }
 {
     if !leads_through(path.root, name) {
         return Ok(Items::new(path.alloc));
     }
-    let found = select(judge, document, path, runs, moves)?;
+    let found = select::<J, A, M>(judge, document, path, runs, moves)?;
     Ok(Items::from_vec(found))
 }
 

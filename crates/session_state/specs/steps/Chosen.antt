@@ -21,25 +21,26 @@ abbrev pub edit_of : code.Edit → Edit
 edit_of edit = record { how = edit.how; content = nodes (map node edit.content.now) }
 
 -- the places of the elements of a document to which a path leads; none where it doesn't go through the document
-abbrev pub planned_places : Judgement → PlannedPath → Named → List (List ℕ)
-planned_places says path d =
-    if leads_through path.root.now d.name then map (λ e. e.place) (planned_in says path d.root) else []
+abbrev pub planned_places : Judgement → List (List ℕ) → PlannedPath → Named → List (List ℕ)
+planned_places says abbreviations path d =
+    if leads_through path.root.now d.name then map (λ e. e.place) (planned_in says abbreviations path d.root) else []
 
 -- what the tests cost for which a path asks in a document
-abbrev pub price_through : Judgement → PlannedPath → List RunMeaning → Named → ℕ
-price_through says path runs d = if leads_through path.root.now d.name then planned_price says path runs d.root else 0
+abbrev pub price_through : Judgement → List (List ℕ) → PlannedPath → List RunMeaning → Named → ℕ
+price_through says abbreviations path runs d =
+    if leads_through path.root.now d.name then planned_price says abbreviations path runs d.root else 0
 
-abbrev pub prices_through : Judgement → PlannedPath → List RunMeaning → List Named → ℕ
-prices_through says path runs documents = sum_by (price_through says path runs) documents
+abbrev pub prices_through : Judgement → List (List ℕ) → PlannedPath → List RunMeaning → List Named → ℕ
+prices_through says abbreviations path runs documents = sum_by (price_through says abbreviations path runs) documents
 
 -- References name the elements of a document to which a path leads.
-pub record AreLedTo (says : Judgement) (path : PlannedPath) (e : List ℕ × LoadedTree) (refs : List NodeRef) : Type 0 where
+pub record AreLedTo (says : Judgement) (abbreviations : List (List ℕ)) (path : PlannedPath) (e : List ℕ × LoadedTree) (refs : List NodeRef) : Type 0 where
   pub there : All (IsElement e.1.tree.root) refs
-  pub places : places_of e.1.tree.root refs ≡ planned_places says path (to_document e)
+  pub places : places_of e.1.tree.root refs ≡ planned_places says abbreviations path (to_document e)
 
 -- Lists of references do, one for each document.
-abbrev pub AreLedToEach : Judgement → PlannedPath → List (List ℕ × LoadedTree) → List (List NodeRef) → Type 0
-AreLedToEach says path [] [] = ⊤
-AreLedToEach says path [] (refs ∷ rest) = ⊥
-AreLedToEach says path (e ∷ es) [] = ⊥
-AreLedToEach says path (e ∷ es) (refs ∷ rest) = AreLedTo says path e refs × AreLedToEach says path es rest
+abbrev pub AreLedToEach : Judgement → List (List ℕ) → PlannedPath → List (List ℕ × LoadedTree) → List (List NodeRef) → Type 0
+AreLedToEach says abbreviations path [] [] = ⊤
+AreLedToEach says abbreviations path [] (refs ∷ rest) = ⊥
+AreLedToEach says abbreviations path (e ∷ es) [] = ⊥
+AreLedToEach says abbreviations path (e ∷ es) (refs ∷ rest) = AreLedTo says abbreviations path e refs × AreLedToEach says abbreviations path es rest

@@ -20,17 +20,17 @@ ghost use Rattle.session_state.specs.Step.{step};
 
 /// A mark comes after the others under a name of its own, and is found and given up by it.
 pub fn marks_by_their_names()
-    ensures first { (ds : List Named) → mark_put [] (codes "m") ds ≡ (record { name = codes "m"; documents = ds } ∷ [], reply.Done) }
-    ensures taken { (ds : List Named) → mark_put (record { name = codes "m"; documents = [] } ∷ []) (codes "m") ds
-        ≡ (record { name = codes "m"; documents = [] } ∷ [], reply.Refused (refusal.NameTaken (codes "m"))) }
-    ensures found { (a b : List Named) → mark_named (codes "n") (record { name = codes "m"; documents = a } ∷ record { name = codes "n"; documents = b } ∷ [])
-        ≡ Some (record { name = codes "n"; documents = b }) }
-    ensures given_up { (a b : List Named)
-        → mark_taken (record { name = codes "m"; documents = a } ∷ record { name = codes "n"; documents = b } ∷ []) (codes "m")
-        ≡ (record { name = codes "n"; documents = b } ∷ [], reply.Done) }
+    ensures first { (ds : List Named) → (keys : List (List ℕ))
+        → mark_put [] (codes "m") ds keys ≡ (record { name = codes "m"; documents = ds; abbreviations = keys } ∷ [], reply.Done) }
+    ensures taken { (m : Mark) → (ds : List Named) → (keys : List (List ℕ)) → mark_put (record m { name = codes "m" } ∷ []) (codes "m") ds keys
+        ≡ (record m { name = codes "m" } ∷ [], reply.Refused (refusal.NameTaken (codes "m"))) }
+    ensures found { (m n : Mark) → mark_named (codes "n") (record m { name = codes "m" } ∷ record n { name = codes "n" } ∷ [])
+        ≡ Some (record n { name = codes "n" }) }
+    ensures given_up { (m n : Mark) → mark_taken (record m { name = codes "m" } ∷ record n { name = codes "n" } ∷ []) (codes "m")
+        ≡ (record n { name = codes "n" } ∷ [], reply.Done) }
     ensures not_there { mark_taken [] (codes "m") ≡ ([], reply.Refused (refusal.NoSuchName (codes "m"))) }
-    ensures version { (a b : List Named) → (v w : List Numbered)
-        → version_of_mark (codes "n") (record { name = codes "m"; documents = a } ∷ record { name = codes "n"; documents = b } ∷ []) (v ∷ w ∷ []) ≡ w }
+    ensures version { (m n : Mark) → (v w : List Numbered)
+        → version_of_mark (codes "n") (record m { name = codes "m" } ∷ record n { name = codes "n" } ∷ []) (v ∷ w ∷ []) ≡ w }
 {}
 
 /// An edit is refused where there is no element, where there are several and it may be of one alone, and of a root that wouldn't stay.

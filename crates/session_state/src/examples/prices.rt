@@ -11,7 +11,7 @@ path_meaning::specs::Tests::step_tests, path_meaning::specs::Tests::steps_tests,
 // what predicates ask
 path_meaning::specs::Tests::predicates_tests, path_meaning::specs::Tests::predicate_tests, path_meaning::specs::Tests::condition_tests))]
 
-ghost use Rattle.std.specs.Prelude.{◌≡◌, ◌∷◌, [], ℕ, List, map, codes, false, true, Ok, Err};
+ghost use Rattle.std.specs.Prelude.{◌≡◌, ◌∷◌, [], ℕ, List, codes, false, true, Ok, Err};
 ghost use Rattle.std.specs.List.{sum_by};
 ghost use Rattle.ft_base.specs.declared.fault.QueryFault.TheVariants as faults;
 ghost use Rattle.ft_base.specs.Selection.{Form, mild_not};
@@ -27,7 +27,7 @@ ghost use Rattle.plan_compiler.specs.Lexicon.{lexicon};
 ghost use Rattle.plan_compiler.specs.NamedLists.{NamedLists};
 ghost use Rattle.plan_runs.specs.RunPrice.{price};
 ghost use Rattle.command_replies.specs.declared.command.Command.TheVariants as command;
-ghost use Rattle.tokenizer.specs.Tokens.{tokens};
+ghost use Rattle.tokenizer.specs.Tokens.{words_in};
 ghost use Rattle.session_state.specs.KeptTexts.{text_at};
 ghost use Rattle.session_state.specs.Held.{Held};
 ghost use Rattle.session_state.specs.PathPrices.{asks_cheaply, element_price, is_cheap_path, moves_for, path_price, price_in, read_price, words_of};
@@ -35,7 +35,7 @@ ghost use Rattle.session_state.specs.PriceExamples.{both_asked, first_asked, nam
 
 /// The selections of a path are numbered from 0, and one that isn't there costs nothing.
 pub fn prices_at_elements()
-    ensures words { (e : Element) → words_of e ≡ map (λ token. token.word) (tokens e.node) }
+    ensures words { (e : Element) → words_of e ≡ words_in e.node }
     ensures first { (f g : List (List ℕ) → ℕ) → (e : Element) → element_price (f ∷ g ∷ []) 0 e ≡ f (words_of e) }
     ensures second { (f g : List (List ℕ) → ℕ) → (e : Element) → element_price (f ∷ g ∷ []) 1 e ≡ g (words_of e) }
     ensures after { (f g : List (List ℕ) → ℕ) → (e : Element) → element_price (f ∷ g ∷ []) 2 e ≡ 0 }
@@ -43,14 +43,14 @@ pub fn prices_at_elements()
 
 /// A path costs in a document what its tests do: each predicate asks of the elements that those before it have left.
 pub fn prices_in_documents()
-    ensures one { (says : Judgement) → (lists : NamedLists) → (version : List Numbered) → (f g : Form)
-        → price_in says lists version (with_selections Collection first_asked (f ∷ g ∷ [])) letters
+    ensures one { (says : Judgement) → (keys : List (List ℕ)) → (lists : NamedLists) → (version : List Numbered) → (f g : Form)
+        → price_in says keys lists version (with_selections Collection first_asked (f ∷ g ∷ [])) letters
         ≡ sum_by (λ e. price (lexicon lists) f version (words_of e)) named_b }
-    ensures none_left { (lists : NamedLists) → (version : List Numbered) → (f g : Form)
-        → price_in (λ form lists tokens. false) lists version (with_selections Collection both_asked (f ∷ g ∷ [])) letters
+    ensures none_left { (keys : List (List ℕ)) → (lists : NamedLists) → (version : List Numbered) → (f g : Form)
+        → price_in (λ form lists tokens. false) keys lists version (with_selections Collection both_asked (f ∷ g ∷ [])) letters
         ≡ sum_by (λ e. price (lexicon lists) f version (words_of e)) named_b }
-    ensures all_left { (lists : NamedLists) → (version : List Numbered) → (f g : Form)
-        → price_in (λ form lists tokens. true) lists version (with_selections Collection both_asked (f ∷ g ∷ [])) letters
+    ensures all_left { (keys : List (List ℕ)) → (lists : NamedLists) → (version : List Numbered) → (f g : Form)
+        → price_in (λ form lists tokens. true) keys lists version (with_selections Collection both_asked (f ∷ g ∷ [])) letters
         ≡ sum_by (λ form. sum_by (λ e. price (lexicon lists) form version (words_of e)) named_b) (f ∷ g ∷ []) }
 {}
 
@@ -58,10 +58,10 @@ pub fn prices_in_documents()
 pub fn prices_of_paths()
     ensures all { (says : Judgement) → (lists : NamedLists) → (version : List Numbered) → (f : Form)
         → path_price says (two_held lists version) (with_selections Collection first_asked (f ∷ []))
-        ≡ sum_by (price_in says lists version (with_selections Collection first_asked (f ∷ []))) (letters ∷ nested ∷ []) }
+        ≡ sum_by (price_in says [] lists version (with_selections Collection first_asked (f ∷ []))) (letters ∷ nested ∷ []) }
     ensures one { (says : Judgement) → (lists : NamedLists) → (version : List Numbered) → (f : Form)
         → path_price says (two_held lists version) (with_selections (Doc (codes "n")) first_asked (f ∷ []))
-        ≡ sum_by (price_in says lists version (with_selections (Doc (codes "n")) first_asked (f ∷ []))) (nested ∷ []) }
+        ≡ sum_by (price_in says [] lists version (with_selections (Doc (codes "n")) first_asked (f ∷ []))) (nested ∷ []) }
     ensures not_there { (says : Judgement) → (lists : NamedLists) → (version : List Numbered) → (f : Form)
         → path_price says (two_held lists version) (with_selections (Doc (codes "o")) first_asked (f ∷ [])) ≡ 0 }
 {}
@@ -73,6 +73,7 @@ pub fn prices_of_commands()
     ensures query { (says : Judgement) → (held : Held) → (text : List ℕ) → moves_for says held (command.Query text) ≡ read_price says held (path_read text) }
     ensures print { (says : Judgement) → (held : Held) → (text : List ℕ) → moves_for says held (command.Print text) ≡ read_price says held (path_read text) }
     ensures drop { (says : Judgement) → (held : Held) → (name : List ℕ) → moves_for says held (command.Drop name) ≡ 0 }
+    ensures abbreviations { (says : Judgement) → (held : Held) → (block : List ℕ) → moves_for says held (command.Abbreviations block) ≡ 0 }
 {}
 
 /// A path is cheap where each of its selections is; a command asks cheaply where its path is cheap, or where it has none.

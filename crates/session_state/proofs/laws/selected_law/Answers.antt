@@ -5,7 +5,7 @@ use Rattle.session_state.proofs.laws.selected_law.Goals as goal
 use Rattle.session_state.specs.Paths.{satisfies, selections_of}
 
 pub returns-clause-members : goal.returns-clause-members
-returns-clause-members c = λ says state p d. members.selected-part (satisfies says state.lists (selections_of p)) p.path.steps d.root
+returns-clause-members c = λ says state p d. members.selected-part (satisfies says state.abbreviations state.lists (selections_of p)) p.path.steps d.root
 
 pub returns-clause-order : goal.returns-clause-order
-returns-clause-order c = λ says state p d. order.selected_in_order (satisfies says state.lists (selections_of p)) p.path.steps d.root
+returns-clause-order c = λ says state p d. order.selected_in_order (satisfies says state.abbreviations state.lists (selections_of p)) p.path.steps d.root

@@ -19,8 +19,8 @@ use Rattle.session_state.specs.StateView.{held_of, state_of}
 use Rattle.session_state.proofs.PathLemmas.{planned-lines, planned-prices, ready-answer, ready-plan, refused-answer, texts-under}
 use Rattle.session_state.proofs.paths.answer_path.Goals as goal
 
-pub answer_planned-answered-requires : goal.answer_planned-answered-requires
-answer_planned-answered-requires g c =
+pub answer_planned-answered-requires-clause-plans : goal.answer_planned-answered-requires-clause-plans
+answer_planned-answered-requires-clause-plans g c =
     let ready : IsReadyPath c.args.collection.now.documents c.args.prepared.now c.args.text.now c.in-Ok-Path.ready =
     subst (IsReady c.args.collection.now.documents c.args.prepared.now c.args.text.now) c.in-Ok-Path.field-0-is c.in-Ok-Path.ensures in
     subst (λ ps. AskBelow (length ps) (steps (map step c.planned.result.steps.now))) (sym c.planned.ensures.plans)

@@ -8,12 +8,12 @@ use Rattle.session_state.proofs.selected.collect_all.Given as goal
 
 abbrev pub invariant-loop-name : goal.invariant-loop-name
 invariant-loop-name g l = record {
-  lines : l.lines ++ flat_map (planned_lines g.J.Judge.says l.shown l.path) (map to_document l.name-iterator)
-      ≡ flat_map (planned_lines g.J.Judge.says l.shown l.path) (map to_document l.documents);
+  lines : l.lines ++ flat_map (planned_lines g.J.Judge.says g.A.Abbreviated.abbreviations l.shown l.path) (map to_document l.name-iterator)
+      ≡ flat_map (planned_lines g.J.Judge.says g.A.Abbreviated.abbreviations l.shown l.path) (map to_document l.documents);
   runs : l.runs ≡ l.fn.runs;
-  over : AreOverEach l.fn.runs (trees_of l.name-iterator);
+  over : AreOverEach g.A.Abbreviated.abbreviations l.fn.runs (trees_of l.name-iterator);
   moves : l.fn.moves ≤ l.moves;
   price : has_cheap_plans l.path ≡ true
-      → l.moves + prices_in g.J.Judge.says l.path l.fn.runs (map to_document l.name-iterator)
-      ≤ l.fn.moves + prices_in g.J.Judge.says l.path l.fn.runs (map to_document l.documents);
+      → l.moves + prices_in g.J.Judge.says g.A.Abbreviated.abbreviations l.path l.fn.runs (map to_document l.name-iterator)
+      ≤ l.fn.moves + prices_in g.J.Judge.says g.A.Abbreviated.abbreviations l.path l.fn.runs (map to_document l.documents);
 }

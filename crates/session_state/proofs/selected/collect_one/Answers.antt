@@ -19,15 +19,15 @@ collect_from-requires-clause-over g c =
     let name = c.args.name.now in
     let entries = c.args.documents.now in
     let found : lookup (bytes_eq name) entries ≡ Some c.in-Some.document.now = sym c.get.ensures ∙ ap option_copied c.in-Some.is in
-    found-tree (AreOver c.args.runs.now) name entries c.in-Some.document.now c.requires.over found
+    found-tree (AreOver g.A.Abbreviated.abbreviations c.args.runs.now) name entries c.in-Some.document.now c.requires.over found
 
 pub returns-in-Some-clause-lines : goal.returns-in-Some-clause-lines
 returns-in-Some-clause-lines g c =
     let name = c.args.name.now in
     let entries = c.args.documents.now in
-    let lines = planned_lines g.J.Judge.says c.args.shown c.args.path.now in
+    let lines = planned_lines g.J.Judge.says g.A.Abbreviated.abbreviations c.args.shown c.args.path.now in
     let found : lookup (bytes_eq name) entries ≡ Some c.in-Some.document.now = sym c.get.ensures ∙ ap option_copied c.in-Some.is in
-    let one : planned_lines g.J.Judge.says c.args.shown c.args.path.now (to_document (c.as_str.result.now, c.in-Some.document.now)) ≡ flat_map lines (documents (Doc name) (map to_document entries)) =
+    let one : planned_lines g.J.Judge.says g.A.Abbreviated.abbreviations c.args.shown c.args.path.now (to_document (c.as_str.result.now, c.in-Some.document.now)) ≡ flat_map lines (documents (Doc name) (map to_document entries)) =
     ap (λ n. lines (to_document (n, c.in-Some.document.now))) c.as_str.ensures
     ∙ (sym (append-nil (lines (to_document (name, c.in-Some.document.now)))) ∙ sym (ap (flat_map lines) (one-named name entries c.in-Some.document.now c.iter-entries.ensures.distinct found))) in
     subst (λ ls. IfOk c.collect_from.result (λ found. found ≡ ls)) one c.collect_from.ensures.lines
@@ -36,19 +36,20 @@ pub returns-in-None-clause-lines : goal.returns-in-None-clause-lines
 returns-in-None-clause-lines g c =
     let name = c.args.name.now in
     let entries = c.args.documents.now in
-    let lines = planned_lines g.J.Judge.says c.args.shown c.args.path.now in
+    let lines = planned_lines g.J.Judge.says g.A.Abbreviated.abbreviations c.args.shown c.args.path.now in
     let none : lookup (bytes_eq name) entries ≡ None = sym c.get.ensures ∙ ap option_copied c.in-None.is in
     c.new.ensures ∙ sym (ap (flat_map lines) (none-named name entries none))
 
 pub returns-in-Some-clause-price : goal.returns-in-Some-clause-price
 returns-in-Some-clause-price g c cheap =
     let says = g.J.Judge.says in
+    let abbreviations = g.A.Abbreviated.abbreviations in
     let path = c.args.path.now in
     let runs = c.args.runs.now in
     let name = c.args.name.now in
     let entries = c.args.documents.now in
     let found : lookup (bytes_eq name) entries ≡ Some c.in-Some.document.now = sym c.get.ensures ∙ ap option_copied c.in-Some.is in
-    let one : planned_price says path runs (plain c.in-Some.document.now.tree.root) ≡ prices_in says path runs (documents (Doc name) (map to_document entries)) =
-    sym (prices-one says path runs (to_document (name, c.in-Some.document.now)))
-    ∙ sym (ap (prices_in says path runs) (one-named name entries c.in-Some.document.now c.iter-entries.ensures.distinct found)) in
+    let one : planned_price says abbreviations path runs (plain c.in-Some.document.now.tree.root) ≡ prices_in says abbreviations path runs (documents (Doc name) (map to_document entries)) =
+    sym (prices-one says abbreviations path runs (to_document (name, c.in-Some.document.now)))
+    ∙ sym (ap (prices_in says abbreviations path runs) (one-named name entries c.in-Some.document.now c.iter-entries.ensures.distinct found)) in
     subst (λ n. c.collect_from.new.moves ≤ c.args.moves.now + n) one (c.collect_from.ensures.price cheap)

@@ -23,17 +23,18 @@ nodes-requires-clause-asked g c =
 
 pub returns-clause-runs : goal.returns-clause-runs
 returns-clause-runs g c =
-    let same = runs-loan g.J.Judge.says g.B.Loan.runs _ _ _ _ _ _ c.nodes.ensures.meaning in
+    let same = runs-loan g.J.Judge.says g.B.Loan.abbreviations g.B.Loan.runs _ _ _ _ _ _ c.nodes.ensures.meaning in
     search rules
 
 pub returns-clause-moves : goal.returns-clause-moves
 returns-clause-moves g c =
-    let same = moves-loan g.J.Judge.says g.B.Loan.runs _ _ _ _ _ _ c.nodes.ensures.meaning in
+    let same = moves-loan g.J.Judge.says g.B.Loan.abbreviations g.B.Loan.runs _ _ _ _ _ _ c.nodes.ensures.meaning in
     search rules
 
 pub returns-clause-price : goal.returns-clause-price
 returns-clause-price g c cheap =
     let says = g.J.Judge.says in
+    let abbreviations = g.B.Loan.abbreviations in
     let path = c.args.path.now in
     let runs = g.B.Loan.runs in
     let root = c.tree-tree.result.now.root in
@@ -42,8 +43,8 @@ returns-clause-price g c cheap =
     let all : are_cheap (map run_meant runs) ≡ true = ap are_cheap meant_same ∙ cheap in
     let prices = element_price (map run_price runs) in
     let counted : (n : ℕ) → where_cheap runs n ≡ n = λ n. ap (λ b. cond b n 0) all in
-    let bound = rw all at (c.nodes.ensures.costs (is_meant says plans) prices (λ k r e. ap (λ ms. is_meant says ms k (element_of root r)) meant_same) (λ k r e. counted (prices k (element_of root r)))) in
-    let there = ap (λ t. planned_price says path runs (plain t.root)) c.tree-tree.ensures.tree in
-    let lent = ap (λ rs. planned_price says path rs (plain c.args.document.now.tree.root)) c.requires.lent_runs in
-    let same = moves-loan says runs _ _ _ _ _ _ c.nodes.ensures.meaning in
+    let bound = rw all at (c.nodes.ensures.costs (is_meant says abbreviations plans) prices (λ k r e. ap (λ ms. is_meant says abbreviations ms k (element_of root r)) meant_same) (λ k r e. counted (prices k (element_of root r)))) in
+    let there = ap (λ t. planned_price says abbreviations path runs (plain t.root)) c.tree-tree.ensures.tree in
+    let lent = ap (λ rs. planned_price says abbreviations path rs (plain c.args.document.now.tree.root)) c.requires.lent_runs in
+    let same = moves-loan says abbreviations runs _ _ _ _ _ _ c.nodes.ensures.meaning in
     search rules

@@ -7,7 +7,8 @@ use Rattle.session_state.proofs.targets.choose.Goals as goal
 pub returns-clause-refs : goal.returns-clause-refs
 returns-clause-refs g c =
     let says = g.J.Judge.says in
+    let abbreviations = g.A.Abbreviated.abbreviations in
     let path = c.args.path.now in
     let empty : c.loop-name.name-iterator ≡ [] = search rules in
-    subst (λ (rs : List (List NodeRef)). AreLedToEach says path c.args.documents.now rs) (append-nil c.loop-name.chosen.refs)
-    (c.loop-name.invariant.refs [] (subst (λ es. AreLedToEach says path es []) (sym empty) tt))
+    subst (λ (rs : List (List NodeRef)). AreLedToEach says abbreviations path c.args.documents.now rs) (append-nil c.loop-name.chosen.refs)
+    (c.loop-name.invariant.refs [] (subst (λ es. AreLedToEach says abbreviations path es []) (sym empty) tt))

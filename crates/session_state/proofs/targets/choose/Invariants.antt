@@ -10,15 +10,15 @@ use Rattle.session_state.proofs.targets.choose.Given as goal
 
 abbrev pub invariant-loop-name : goal.invariant-loop-name
 invariant-loop-name g l = record {
-  refs : (rest : List (List NodeRef)) → AreLedToEach g.J.Judge.says l.path l.name-iterator rest → AreLedToEach g.J.Judge.says l.path l.documents (l.chosen.refs ++ rest);
-  count : l.chosen.count + target_count (map (planned_places g.J.Judge.says l.path) (map to_document l.name-iterator))
-      ≡ target_count (map (planned_places g.J.Judge.says l.path) (map to_document l.documents));
-  rooted : (has_root (map (planned_places g.J.Judge.says l.path) (map to_document l.name-iterator)) || l.chosen.has_root)
-      ≡ has_root (map (planned_places g.J.Judge.says l.path) (map to_document l.documents));
+  refs : (rest : List (List NodeRef)) → AreLedToEach g.J.Judge.says g.A.Abbreviated.abbreviations l.path l.name-iterator rest → AreLedToEach g.J.Judge.says g.A.Abbreviated.abbreviations l.path l.documents (l.chosen.refs ++ rest);
+  count : l.chosen.count + target_count (map (planned_places g.J.Judge.says g.A.Abbreviated.abbreviations l.path) (map to_document l.name-iterator))
+      ≡ target_count (map (planned_places g.J.Judge.says g.A.Abbreviated.abbreviations l.path) (map to_document l.documents));
+  rooted : (has_root (map (planned_places g.J.Judge.says g.A.Abbreviated.abbreviations l.path) (map to_document l.name-iterator)) || l.chosen.has_root)
+      ≡ has_root (map (planned_places g.J.Judge.says g.A.Abbreviated.abbreviations l.path) (map to_document l.documents));
   runs : l.runs ≡ l.fn.runs;
-  over : AreOverEach l.fn.runs (trees_of l.name-iterator);
+  over : AreOverEach g.A.Abbreviated.abbreviations l.fn.runs (trees_of l.name-iterator);
   moves : l.fn.moves ≤ l.moves;
   price : has_cheap_plans l.path ≡ true
-      → l.moves + prices_through g.J.Judge.says l.path l.fn.runs (map to_document l.name-iterator)
-      ≤ l.fn.moves + prices_through g.J.Judge.says l.path l.fn.runs (map to_document l.documents);
+      → l.moves + prices_through g.J.Judge.says g.A.Abbreviated.abbreviations l.path l.fn.runs (map to_document l.name-iterator)
+      ≤ l.fn.moves + prices_through g.J.Judge.says g.A.Abbreviated.abbreviations l.path l.fn.runs (map to_document l.documents);
 }

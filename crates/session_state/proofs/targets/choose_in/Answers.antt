@@ -11,5 +11,5 @@ returns-clause-led g c =
     let name = c.args.name.now in
     let document = c.args.document.now in
     let leads : leads_through c.args.path.now.root.now name ≡ true = search rules in
-    subst (λ (refs : List NodeRef). AreLedTo g.J.Judge.says c.args.path.now (name, document) refs) (sym c.from_vec.ensures)
-    (led-here g.J.Judge.says c.args.path.now name document c.in_ok-found.found.items c.in_ok-found.ensures.there c.in_ok-found.ensures.elements leads)
+    subst (λ (refs : List NodeRef). AreLedTo g.J.Judge.says g.A.Abbreviated.abbreviations c.args.path.now (name, document) refs) (sym c.from_vec.ensures)
+    (led-here g.J.Judge.says g.A.Abbreviated.abbreviations c.args.path.now name document c.in_ok-found.found.items c.in_ok-found.ensures.there c.in_ok-found.ensures.elements leads)

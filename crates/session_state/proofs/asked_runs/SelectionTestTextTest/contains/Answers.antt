@@ -8,6 +8,7 @@ use Rattle.path_meaning.specs.Elements.{Element}
 use Rattle.path_nodes.specs.References.{element_of}
 use Rattle.path_nodes.proofs.SpotLemmas.{spot-stand}
 use Rattle.plan_runs.specs.RunPrice.{price_at}
+use Rattle.tokenizer.proofs.PartsLemmas.{words-tokens}
 use Rattle.tokenizer.specs.Tokens.{tokens}
 use Rattle.session_state.specs.PathPrices.{are_cheap, element_price, words_of}
 use Rattle.session_state.specs.PlannedPaths.{run_meant, run_price}
@@ -23,16 +24,18 @@ span_of-span-requires g c =
 pub judge-requires-clause-there : goal.judge-requires-clause-there
 judge-requires-clause-there g c =
     let root = c.args.self.now.tree.now.root in
+    let abbreviations = g.B.Loan.abbreviations in
     let runs = g.B.Loan.runs in
     let k = c.args.selection in
     let run = get_or c.args.self.now.runs.now k c.index-runs-selection.result in
     let is : get_or runs k run ≡ run = run-lent runs c.args.self.now.runs.now k c.index-runs-selection.result c.args.self.now.same c.index-runs-selection.is in
-    let follows = over-at runs k run (c.args.self.now.doc.0, root) (asked-run runs root k c.args.node c.requires) is c.args.self.now.over in
+    let follows = over-at abbreviations runs k run (c.args.self.now.doc.0, root) (asked-run runs root k c.args.node c.requires) is c.args.self.now.over in
     follows.there
 
 pub judge-requires-clause-inside : goal.judge-requires-clause-inside
 judge-requires-clause-inside g c =
     let root = c.args.self.now.tree.now.root in
+    let abbreviations = g.B.Loan.abbreviations in
     let runs = g.B.Loan.runs in
     let k = c.args.selection in
     let run = get_or c.args.self.now.runs.now k c.index-runs-selection.result in
@@ -40,14 +43,15 @@ judge-requires-clause-inside g c =
     let n = asked-node runs root k c.args.node c.requires in
     let among = spot-stand root n.spot n.among in
     let is : get_or runs k run ≡ run = run-lent runs c.args.self.now.runs.now k c.index-runs-selection.result c.args.self.now.same c.index-runs-selection.is in
-    let follows = over-at runs k run (doc, root) (asked-run runs root k c.args.node c.requires) is c.args.self.now.over in
-    let below = span-inside run.version doc root follows n.spot.stand among in
+    let follows = over-at abbreviations runs k run (doc, root) (asked-run runs root k c.args.node c.requires) is c.args.self.now.over in
+    let below = span-inside abbreviations run.version doc root follows n.spot.stand among in
     subst (λ (s : Span). (1 ≤ s.from) × (s.from ≤ s.to) × (s.to ≤ token_count (document_at doc run.version) + 1))
     (sym (c.span_of-span.ensures.positions n.spot.stand among n.refers)) (omega arith, omega arith, below)
 
 pub returns-clause-says : goal.returns-clause-says
 returns-clause-says g c =
     let root = c.args.self.now.tree.now.root in
+    let abbreviations = g.B.Loan.abbreviations in
     let runs = g.B.Loan.runs in
     let k = c.args.selection in
     let run = get_or c.args.self.now.runs.now k c.index-runs-selection.result in
@@ -56,19 +60,20 @@ returns-clause-says g c =
     let among = spot-stand root n.spot n.among in
     let less = asked-run runs root k c.args.node c.requires in
     let is : get_or runs k run ≡ run = run-lent runs c.args.self.now.runs.now k c.index-runs-selection.result c.args.self.now.same c.index-runs-selection.is in
-    let follows = over-at runs k run (doc, root) less is c.args.self.now.over in
+    let follows = over-at abbreviations runs k run (doc, root) less is c.args.self.now.over in
     let inside = subst (λ (s : Span). IsSpan s (document_at doc run.version)) (sym (c.span_of-span.ensures.positions n.spot.stand among n.refers))
-    (span-there run.version doc root follows n.spot.stand among) in
-    let same = tokens-at-span run.version doc root c.span_of-span.result (tokens (plain n.spot.stand.node)) follows inside
-    (c.span_of-span.ensures.tokens n.spot.stand among n.refers) in
+    (span-there abbreviations run.version doc root follows n.spot.stand among) in
+    let same = tokens-at-span abbreviations run.version doc root c.span_of-span.result (tokens abbreviations (plain n.spot.stand.node)) follows inside
+    (c.span_of-span.ensures.tokens abbreviations n.spot.stand among n.refers) in
     c.judge.ensures.says
     ∙ (ap (g.J.Judge.says run.form run.lists) same
-    ∙ (ap (λ (e : Element). g.J.Judge.says run.form run.lists (tokens e.node)) (sym n.is)
-    ∙ sym (met-at g.J.Judge.says runs k run (element_of root c.args.node) less is)))
+    ∙ (ap (λ (e : Element). g.J.Judge.says run.form run.lists (tokens abbreviations e.node)) (sym n.is)
+    ∙ sym (met-at g.J.Judge.says abbreviations runs k run (element_of root c.args.node) less is)))
 
 pub returns-clause-cost : goal.returns-clause-cost
 returns-clause-cost g c =
     let root = c.args.self.now.tree.now.root in
+    let abbreviations = g.B.Loan.abbreviations in
     let runs = g.B.Loan.runs in
     let k = c.args.selection in
     let run = get_or c.args.self.now.runs.now k c.index-runs-selection.result in
@@ -77,11 +82,11 @@ returns-clause-cost g c =
     let among = spot-stand root n.spot n.among in
     let less = asked-run runs root k c.args.node c.requires in
     let is : get_or runs k run ≡ run = run-lent runs c.args.self.now.runs.now k c.index-runs-selection.result c.args.self.now.same c.index-runs-selection.is in
-    let follows = over-at runs k run (doc, root) less is c.args.self.now.over in
-    let ts = tokens (plain n.spot.stand.node) in
-    let words = words-at-span run.version doc root follows c.span_of-span.result ts (c.span_of-span.ensures.tokens n.spot.stand among n.refers) in
+    let follows = over-at abbreviations runs k run (doc, root) less is c.args.self.now.over in
+    let ts = tokens abbreviations (plain n.spot.stand.node) in
+    let words = words-at-span abbreviations run.version doc root follows c.span_of-span.result ts (c.span_of-span.ensures.tokens abbreviations n.spot.stand among n.refers) in
     let price : price_at run doc c.span_of-span.result ≡ element_price (map run_price runs) k (element_of root c.args.node) =
-    ap (run_price run) (sym words)
+    ap (run_price run) (sym words ∙ words-tokens abbreviations (plain n.spot.stand.node))
     ∙ (ap (λ (e : Element). run_price run (words_of e)) (sym n.is) ∙ sym (priced-at runs k run (element_of root c.args.node) less is)) in
     let own = element_price (map run_price runs) k (element_of root c.args.node) in
     elim (are_cheap (map run_meant runs)) as (λ b. are_cheap (map run_meant runs) ≡ b → cond b c.judge.new.moves 0 ≤ cond b c.args.self.now.moves.now 0 + cond b own 0) [

@@ -10,7 +10,7 @@ skip_to-requires g c =
     let run = c.index-runs-selection.result in
     let is : get_or runs k run ≡ run = ap (λ rs. get_or rs k run) (sym c.args.self.now.same) ∙ sym c.index-runs-selection.is in
     let less : k < length runs = omega (arith, c.if-selection-runs.false, ap length c.args.self.now.same) in
-    let follows = over-at runs k run (c.args.self.now.doc.0, c.args.self.now.tree.now.root) less is c.args.self.now.over in
+    let follows = over-at g.B.Loan.abbreviations runs k run (c.args.self.now.doc.0, c.args.self.now.tree.now.root) less is c.args.self.now.over in
     record { there = follows.there }
 
 pub returns : goal.returns
@@ -19,5 +19,5 @@ returns g c =
     let k = c.args.selection in
     let run = c.index-runs-selection.result in
     let is : get_or runs k run ≡ run = ap (λ rs. get_or rs k run) (sym c.args.self.now.same) ∙ sym c.index-runs-selection.is in
-    skipped g.J.Judge.says runs c.args.self.now.tree.now.root k run c.args.self.now.doc.0 c.args.from c.skip_to.result is
+    skipped g.J.Judge.says g.B.Loan.abbreviations runs c.args.self.now.tree.now.root k run c.args.self.now.doc.0 c.args.from c.skip_to.result is
     c.args.self.now.over c.skip_to.ensures.none

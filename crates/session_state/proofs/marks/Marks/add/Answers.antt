@@ -16,7 +16,7 @@ invariant_of-self-2 c =
     let m = c.self.inside.kept in
     let none : get bytes_eq m c.args.name ≡ None = ap (λ (es : List Entry). lookup (bytes_eq c.args.name) es) c.self.view_is ∙ c.requires in
     let entries = c.in-Ok-insert.ensures.entries ∙ insert_entry-new bytes_eq m c.args.name c.in-Ok.copy none in
-    let own = subst (λ (i : Indexed). IsIndexOf i.documents i.version) (sym c.in-Ok.ensures) c.documents-documents.ensures.indexed in
+    let own = subst (λ (i : Indexed). IsIndexOf i.abbreviations i.documents i.version) (sym c.in-Ok.ensures) c.documents-documents.ensures.indexed in
     subst (λ (es : List Entry). AllByRecursion IsOwnIndex es) (sym entries) (own-more m.entries (c.args.name, c.in-Ok.copy) c.self.invariant own)
 
 pub returns-clause-entries : goal.returns-clause-entries

@@ -1,5 +1,5 @@
 -- The elements that the path selects are edited, and its plans are kept.
-use Rattle.std.proofs.Common.{◌≡◌, ◌∙◌, ◌≤◌, ◌+◌, sym, ap, subst, ℕ}
+use Rattle.std.proofs.Common.{◌≡◌, ◌∙◌, ◌≤◌, ◌+◌, sym, ap, subst, ℕ, List}
 use Rattle.std.specs.Prelude.{IfOk, Result}
 use Rattle.ft_base.specs.declared.memory.Memory.{Memory}
 use Rattle.kept_plans.specs.Preparation.{texts_of}
@@ -38,10 +38,13 @@ returns-clause-answer g c =
     let texts = ap texts_of ready.plans ∙ texts-under inside.prepared.lists text p in
     let done = edit-kept g.J.Judge.says was.state edit.targets (edit_of edit) text p ready.read c.planned-planned.result plan ready.document ready.lists
     c.edit_along-edited.result documents q (texts_of c.args.ready.plans.items) texts c.edit_along-edited.ensures.answer c.keep_accepted.ensures.kept in
-    subst (λ (h : Held). IfOk c.keep_accepted.result (λ reply. replied (with_prepared_in (record was.state { documents = documents }) q) reply
+    let abbreviations = c.edit_along-edited.new.collection.abbreviations in
+    subst (λ (h : Held). IfOk c.keep_accepted.result (λ reply. replied (with_prepared_in (record was.state { documents = documents; abbreviations = abbreviations }) q) reply
     ≡ keep_plans text (edit_path g.J.Judge.says h.state edit.targets (edit_of edit) text))) c.self.view_is
-    (subst (λ (r : Result Reply Memory). IfOk r (λ reply. replied (with_prepared_in (record was.state { documents = documents }) q) reply
-    ≡ keep_plans text (edit_path g.J.Judge.says was.state edit.targets (edit_of edit) text))) (sym c.keep_accepted.ensures.same) done)
+    (subst (λ (r : Result Reply Memory). IfOk r (λ reply. replied (with_prepared_in (record was.state { documents = documents; abbreviations = abbreviations }) q) reply
+    ≡ keep_plans text (edit_path g.J.Judge.says was.state edit.targets (edit_of edit) text))) (sym c.keep_accepted.ensures.same)
+    (subst (λ (keys : List (List ℕ)). IfOk c.edit_along-edited.result (λ reply. replied (with_prepared_in (record was.state { documents = documents; abbreviations = keys }) q) reply
+    ≡ keep_plans text (edit_path g.J.Judge.says was.state edit.targets (edit_of edit) text))) (sym c.edit_along-edited.ensures.abbreviations) done))
 
 pub returns-clause-price : goal.returns-clause-price
 returns-clause-price g c cheap =

@@ -16,7 +16,7 @@ returns-clause-answer g c =
     let was = held_as inside.collection inside.prepared inside.marks in
     let q = c.answer_path.new.prepared in
     subst (λ (h : Held). IfOk c.answer_path.result (λ reply. replied (with_prepared_in was.state q) reply ≡ shown g.J.Judge.says c.args.shown h.state c.args.path.now)) c.self.view_is
-    (shown-along g.J.Judge.says c.args.shown inside.collection was.state was.state c.args.path.now refl refl c.answer_path.result q c.answer_path.ensures.reply c.answer_path.ensures.kept)
+    (shown-along g.J.Judge.says c.args.shown inside.collection was.state was.state c.args.path.now refl refl refl c.answer_path.result q c.answer_path.ensures.reply c.answer_path.ensures.kept)
 
 pub returns-clause-price : goal.returns-clause-price
 returns-clause-price g c cheap =
@@ -26,4 +26,4 @@ returns-clause-price g c cheap =
     let own = ap (λ (h : Held). is_cheap_path h.state.lists read) c.self.view_is ∙ cheap in
     subst (λ (h : Held). c.answer_path.new.moves ≤ c.args.moves.now + read_price g.J.Judge.says h read) c.self.view_is
     (subst (λ (n : ℕ). c.answer_path.new.moves ≤ c.args.moves.now + n)
-    (same-price g.J.Judge.says (held_of inside.collection inside.prepared.lists) was read refl refl refl) (c.answer_path.ensures.price own))
+    (same-price g.J.Judge.says (held_of inside.collection inside.prepared.lists) was read refl refl refl refl) (c.answer_path.ensures.price own))
