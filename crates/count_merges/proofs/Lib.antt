@@ -1,0 +1,9 @@
+pub mod PassLemmas
+pub mod SumLemmas
+pub mod AgreeLemmas
+pub mod ListChanges
+pub mod FitLemmas
+pub mod StartLemmas
+pub mod LawLemmas
+pub mod GroupLemmas
+pub mod PhraseLemmas
