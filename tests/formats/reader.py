@@ -13,6 +13,7 @@ MOST_LINE = 65_536
 MOST_BLOCK = 67_108_864
 MARK = b"\xef\xbb\xbf"
 BLOCK_WORDS = {b"load", b"insert", b"replace", b"stop", b"stems", b"thesaurus"}
+SIZED_BLOCK_WORDS = BLOCK_WORDS | {b"abbreviations"}
 LENGTH = re.compile(rb"0|[1-9][0-9]*")
 BARE = re.compile(r"[A-Za-z0-9._-]{1,64}")
 
@@ -122,7 +123,7 @@ def _of_format_2(stream, number, line, text):
     bad = Command(number, None, None, None, "bad command")
     if not is_readable(line):
         return bad
-    if row[0] not in BLOCK_WORDS:
+    if row[0] not in SIZED_BLOCK_WORDS:
         return _formed(number, row[0].decode(), behind(text, 1).decode(), None, True)
     if len(row) < 2 or not LENGTH.fullmatch(row[1]) or int(row[1]) > MOST_BLOCK:
         return bad
@@ -138,7 +139,7 @@ def _of_format_2(stream, number, line, text):
 def _formed(number, word, rest, block, two):
     """A command whose words are looked at: what stands in the place of a name, a path, a selection, or of nothing."""
     bad = Command(number, None, None, None, "bad command")
-    if word in ("stats", "stems"):
+    if word in ("stats", "stems") or two and word == "abbreviations":
         return Command(number, word, "", block, None) if not rest else bad
     if word == "query" and re.match(r"at(?:[ \t]|$)", rest):
         name, rest = _name(rest[2:].lstrip(" \t"), two)
@@ -174,9 +175,28 @@ def _named(number, word, name, block, path):
     return Command(number, word, (name[0], path) if path else name[0], block, None)
 
 
+WORD = re.compile(r"[^\W_]+(?:\.[^\W_]+)*")
+
+
+def bad_line(block):
+    """The number of the first line of a list that hasn't just one word; None where each has, or is skipped."""
+    for number, line in enumerate(block.split(b"\n"), 1):
+        text = blanks_off(line)
+        if not text or text.startswith(b"#"):
+            continue
+        try:
+            words = WORD.findall(text.decode("utf-8"))
+        except UnicodeDecodeError:
+            return number
+        if len(words) != 1:
+            return number
+    return None
+
+
 class Engine:
-    """Answers commands over documents that are one element a: `load`, `drop`, lists, marks, and `query` and `print` of `doc("NAME")/a` and of
-    `collection()/a`, this one also cut off somewhere. What a block has that isn't such a document is no document; where its fault is, isn't known here."""
+    """Answers commands over documents that are one element a: `load`, `drop`, `stop`, `abbreviations`, `stems`, marks, and `query` and `print` of
+    `doc("NAME")/a` and of `collection()/a`, this one also cut off somewhere. What a block has that isn't such a document is no document; where its
+    fault is, isn't known here. The lines of stems aren't looked at."""
 
     DOCUMENT = re.compile(r"[ \t\r\n]*(?:<a>([^<>&]*)</a>|<a/>)[ \t\r\n]*")
     PATH = "collection()/a"
@@ -206,7 +226,10 @@ class Engine:
             return self._found(word, rest, self.documents)
         elif word == "query at":
             return self._found("query", rest[1], self.marks[rest[0]]) if rest[0] in self.marks else [f"! 4 no such name: {rest[0]}"]
-        elif word not in ("stop", "stems"):
+        elif word in ("stop", "abbreviations"):
+            bad = bad_line(command.block)
+            return ["ok" if bad is None else f"! 6 list: bad line {bad}"]
+        elif word != "stems":
             raise ValueError(f"not known here: {word}")
         return ["ok"]
 

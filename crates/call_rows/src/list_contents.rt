@@ -1,11 +1,11 @@
 // What stop lists and dictionaries hold.
 use std::alloc::Global;
 use std::test::Fail;
-use word_lists::{Stems, StopList};
+use word_lists::{KeySet, Stems};
 
 /// Whether the stop list holds the key.
 fn holds(alloc: Global, list: &str, key: &str) -> Result<bool, Fail> {
-    match StopList::read(alloc, list.as_bytes()) {
+    match KeySet::read(alloc, list.as_bytes()) {
         Ok(list) => Ok(list.holds(key)),
         Err(_) => Err(Fail::from("not read")),
     }

@@ -6,7 +6,9 @@ use plain_tree::{Attrs, Kids, PlainDoc, Tree};
 use std::alloc::Global;
 use std::process::Abort;
 use std::test::Fail;
-use tokenizer::{Piece, Token, breaks_of, count_words, tokens_of, tokens_of_tree, words_of};
+use text_words::{Piece, count_words, words_of};
+use tokenizer::{Token, breaks_of, tokens_of, tokens_of_tree};
+use word_lists::KeySet;
 
 /// Compares the words of the text with those that have bars between them.
 fn expect_words(rt: &impl Abort, alloc: Global, text: &str, wanted: &str) -> Result<(), Fail> {
@@ -97,35 +99,42 @@ fn document_of(alloc: Global, text: &str) -> Result<PlainDoc, Fail> {
     }
 }
 
-/// The tokens of an element or a text by itself.
+/// The tokens of an element or a text by itself, under no abbreviations.
 fn tokens(alloc: Global, tree: &Tree) -> Result<Vec<Token>, Fail> {
-    match tokens_of_tree(alloc, tree) {
+    match tokens_of_tree(alloc, tree, &KeySet::empty(alloc)) {
         Ok(tokens) => Ok(tokens),
         Err(_) => Err(Fail::from("too many tokens")),
     }
 }
 
-/// Compares the tokens of the document, and those at which its sentences and its paragraphs start.
+/// A document, its tokens, and those at which its sentences and its paragraphs start.
+type TokenRow = (
+    &'static str,
+    &'static [Numbered],
+    &'static [u32],
+    &'static [u32],
+);
+
+/// Compares the tokens of the document under the abbreviations, and those at which its sentences and its paragraphs start.
 fn expect_tokens(
     rt: &impl Abort,
     alloc: Global,
-    document: &str,
-    wanted: &[Numbered],
-    sentences: &[u32],
-    paragraphs: &[u32],
+    abbreviations: &KeySet,
+    row: TokenRow,
 ) -> Result<(), Fail> {
+    let (document, wanted, sentences, paragraphs) = row;
     let doc = document_of(alloc, document)?;
-    let Ok(tokens) = tokens_of(alloc, &doc) else {
+    let Ok(tokens) = tokens_of(alloc, &doc, abbreviations) else {
         return Err(Fail::from("too many tokens"));
     };
     assert!(rt; are(tokens.as_slice(), wanted), "{document}");
-    let breaks = breaks_of(alloc, &doc)?;
+    let breaks = breaks_of(alloc, &doc, abbreviations)?;
     assert!(rt; breaks.sentences.as_slice() == sentences, "{document}");
     assert!(rt; breaks.paragraphs.as_slice() == paragraphs, "{document}");
     Ok(())
 }
 
-const TOKENS: [(&str, &[Numbered], &[u32], &[u32]); 2] = [
+const TOKENS: [TokenRow; 2] = [
     (
         "<d><p>x y</p>z. w<p/>v</d>",
         &[
@@ -149,8 +158,71 @@ const TOKENS: [(&str, &[Numbered], &[u32], &[u32]); 2] = [
 
 #[test]
 fn tokens_have_their_sentences_and_paragraphs(rt: HostRuntime) -> Result<(), Fail> {
-    for (document, wanted, sentences, paragraphs) in TOKENS {
-        expect_tokens(&rt, rt.alloc(), document, wanted, sentences, paragraphs)?;
+    let abbreviations = KeySet::empty(rt.alloc());
+    for row in TOKENS {
+        expect_tokens(&rt, rt.alloc(), &abbreviations, row)?;
+    }
+    Ok(())
+}
+
+// Behind an abbreviation one period ends no sentence, where it stands directly behind it and in its text.
+const SPARED: [TokenRow; 12] = [
+    (
+        "<a>Dr. Hill</a>",
+        &[("Dr", 1, 1), ("Hill", 1, 1)],
+        &[1],
+        &[1],
+    ),
+    (
+        "<a>dr. d\u{D3}CT. y</a>",
+        &[("dr", 1, 1), ("d\u{D3}CT", 1, 1), ("y", 1, 1)],
+        &[1],
+        &[1],
+    ),
+    (
+        "<a>Use e.g. this. Go</a>",
+        &[("Use", 1, 1), ("e.g", 1, 1), ("this", 1, 1), ("Go", 2, 1)],
+        &[1, 4],
+        &[1],
+    ),
+    (
+        "<a>Dr. e.g. Dr. y</a>",
+        &[("Dr", 1, 1), ("e.g", 1, 1), ("Dr", 1, 1), ("y", 1, 1)],
+        &[1],
+        &[1],
+    ),
+    ("<a>Dr.<b/>y</a>", &[("Dr", 1, 1), ("y", 1, 1)], &[1], &[1]),
+    (
+        "<a>Dr<b/>. y</a>",
+        &[("Dr", 1, 1), ("y", 2, 1)],
+        &[1, 2],
+        &[1],
+    ),
+    (
+        "<a>(Dr). y</a>",
+        &[("Dr", 1, 1), ("y", 2, 1)],
+        &[1, 2],
+        &[1],
+    ),
+    ("<a>Dr . y</a>", &[("Dr", 1, 1), ("y", 2, 1)], &[1, 2], &[1]),
+    ("<a>Dr.. y</a>", &[("Dr", 1, 1), ("y", 2, 1)], &[1, 2], &[1]),
+    ("<a>Dr.? y</a>", &[("Dr", 1, 1), ("y", 2, 1)], &[1, 2], &[1]),
+    ("<a>Dr! y</a>", &[("Dr", 1, 1), ("y", 2, 1)], &[1, 2], &[1]),
+    (
+        "<a>Dr.\n\ny<p/>Dr.</a>",
+        &[("Dr", 1, 1), ("y", 2, 2), ("Dr", 3, 3)],
+        &[1, 2, 3],
+        &[1, 2, 3],
+    ),
+];
+
+#[test]
+fn a_period_behind_an_abbreviation_ends_no_sentence(rt: HostRuntime) -> Result<(), Fail> {
+    let Ok(abbreviations) = KeySet::read(rt.alloc(), b"DR.\ne.g.\ndoct.\n") else {
+        return Err(Fail::from("not read"));
+    };
+    for row in SPARED {
+        expect_tokens(&rt, rt.alloc(), &abbreviations, row)?;
     }
     Ok(())
 }

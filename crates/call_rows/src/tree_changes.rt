@@ -15,6 +15,7 @@ use std::process::Abort;
 use std::test::Fail;
 use tokenizer::tokens_of;
 use tree_edits::{TreeFault, insert, remove, replace};
+use word_lists::KeySet;
 
 /// What is done to an element: content comes into or beside it, or into its place, or it is taken out.
 #[derive(Clone, Copy)]
@@ -61,7 +62,7 @@ fn tree_of(alloc: Global, doc: &PlainDoc) -> Result<DocTree, Fail>
     requires { node_count doc.now ≤ max_nodes }
     ensures { IfOk result (λ tree. node_count (plain tree.root) ≤ max_nodes) }
 {
-    let Ok(tokens) = tokens_of(alloc, doc) else {
+    let Ok(tokens) = tokens_of(alloc, doc, &KeySet::empty(alloc)) else {
         return Err(Fail::from("too many tokens"));
     };
     drop(tokens);

@@ -12,6 +12,7 @@ use std::process::Abort;
 use std::test::Fail;
 use text_list::TextList;
 use tokenizer::tokens_of;
+use word_lists::KeySet;
 
 /// Compares the root's name, and how many attributes and children it has.
 fn expect_root(
@@ -56,7 +57,7 @@ fn tree_of(alloc: Global, text: &str) -> Result<DocTree, Fail> {
     let Ok(doc) = read_doc(alloc, text.as_bytes()) else {
         return Err(Fail::from("no document"));
     };
-    let Ok(_tokens) = tokens_of(alloc, &doc) else {
+    let Ok(_tokens) = tokens_of(alloc, &doc, &KeySet::empty(alloc)) else {
         return Err(Fail::from("too many tokens"));
     };
     Ok(DocTree::from_doc(alloc, &doc)?)

@@ -13,6 +13,7 @@ use std::alloc::Global;
 use std::process::Abort;
 use std::test::Fail;
 use tokenizer::tokens_of;
+use word_lists::KeySet;
 
 /// A test of the nodes of a document that is true of those of these numbers, except for the selections that no node satisfies, for which
 /// all may be skipped. It counts how often it is asked; each time costs 1.
@@ -61,7 +62,7 @@ pub(crate) fn tree_of(alloc: Global, text: &str) -> Result<DocTree, Fail>
         return Err(Fail::from("no document"));
     };
     let _root = doc.root();
-    let Ok(_tokens) = tokens_of(alloc, &doc) else {
+    let Ok(_tokens) = tokens_of(alloc, &doc, &KeySet::empty(alloc)) else {
         return Err(Fail::from("too many tokens"));
     };
     Ok(DocTree::from_doc(alloc, &doc)?)

@@ -28,6 +28,12 @@ fn with_block(out: &mut Vec<u8>, word: &str, text: &Line, block: &Bytes) -> Resu
     add(out, block.as_slice())
 }
 
+/// Adds a command's word, and its block.
+fn block_alone(out: &mut Vec<u8>, word: &str, block: &Bytes) -> Result<(), AllocError> {
+    add(out, word.as_bytes())?;
+    add(out, block.as_slice())
+}
+
 /// Adds a fault, and the line's last digit.
 fn at_line(out: &mut Vec<u8>, word: &str, line: u64) -> Result<(), AllocError> {
     add(out, word.as_bytes())?;
@@ -54,10 +60,8 @@ fn show(out: &mut Vec<u8>, command: &Command) -> Result<(), AllocError> {
         Command::Replace { path, block } => with_block(out, "replace", path, block),
         Command::Delete { path } => named(out, "delete", path),
         Command::Stop { name, block } => with_block(out, "stop", name, block),
-        Command::Stems { block } => {
-            add(out, b"stems")?;
-            add(out, block.as_slice())
-        }
+        Command::Stems { block } => block_alone(out, "stems", block),
+        Command::Abbreviations { block } => block_alone(out, "abbreviations", block),
         Command::Thesaurus { name, block } => with_block(out, "thesaurus", name, block),
         Command::Query { path } => named(out, "query", path),
         Command::QueryAt { name, path } => {
@@ -204,7 +208,7 @@ const COMMANDS: [CutRow; 14] = [
 ];
 
 /// Sessions of format 2, and their commands.
-const SIZED_COMMANDS: [CutRow; 16] = [
+const SIZED_COMMANDS: [CutRow; 17] = [
     (b"session 2", b""),
     (b"\xEF\xBB\xBFsession 2\r\nstats", b"|stats"),
     (b" session 2\nstats", b"|bad command|1|stats"),
@@ -218,7 +222,11 @@ const SIZED_COMMANDS: [CutRow; 16] = [
     ),
     (
         b"session 2\nabbreviations 3\ndr.\nstats\n",
-        b"|bad command|2|bad command|3|stats",
+        b"|abbreviations|dr.|stats",
+    ),
+    (
+        b"session 2\nabbreviations 0\n\nabbreviations 2\na\n\r\nabbreviations\nabbreviations 1 x\ny\nabbreviations 9\ndr.",
+        b"|abbreviations||abbreviations|a\n|bad command|7|bad command|8|bad command|0",
     ),
     (
         b"session 2\nload 3 x\n<a/>\nstats\n",

@@ -4,6 +4,8 @@
 #![tactic(auto)]
 
 #[cfg(test)]
+mod abbreviations;
+#[cfg(test)]
 mod asked_again;
 #[cfg(test)]
 mod asked_elements;

@@ -4,10 +4,10 @@ use std::alloc::Global;
 use std::process::Abort;
 use std::test::Fail;
 use thesaurus_file::Thesaurus;
-use word_lists::{Stems, StopList};
+use word_lists::{KeySet, Stems};
 
-fn stop_list(alloc: Global, file: &[u8]) -> Result<StopList, Fail> {
-    match StopList::read(alloc, file) {
+fn stop_list(alloc: Global, file: &[u8]) -> Result<KeySet, Fail> {
+    match KeySet::read(alloc, file) {
         Ok(list) => Ok(list),
         Err(_fault) => Err(Fail::from("a bad line")),
     }
