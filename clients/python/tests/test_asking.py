@@ -6,6 +6,7 @@ import csv
 import io
 import json
 import os
+import re
 import shutil
 import signal
 import subprocess
@@ -29,9 +30,9 @@ def test_an_answer_has_file_line_path_and_text(ask: Ask, folder: Path) -> None:
     ran = ask(folder / "voyages.xml", "--query", STORM)
     assert ran.returncode == 0
     assert ran.stdout.splitlines() == [
-        f'{folder}/voyages.xml:6  doc("voyages")/book[1]/chapter[1]/p[2]',
+        f'{folder}/voyages.xml:6  doc("voyages.xml")/book[1]/chapter[1]/p[2]',
         "    No storm was seen.",
-        f'{folder}/voyages.xml:8  doc("voyages")/book[1]/chapter[2]/p[1]',
+        f'{folder}/voyages.xml:8  doc("voyages.xml")/book[1]/chapter[2]/p[1]',
         "    A heavy storm struck the ship at night, sailing north.",
     ]
     assert ran.stderr == ""
@@ -50,9 +51,9 @@ def test_files_that_cant_be_taken_are_named_and_the_rest_goes_on(ask: Ask, folde
     ran = ask(folder, "--query", 'collection()//*[. contains text "café" ftor "and sails" ftor "night"]', "--format", "paths")
     assert f"ask: {folder}/more/empty.xml:1: the file is empty" in ran.stderr
     assert f"ask: {folder}/more/malformed.xml:3: Opening and ending tag mismatch" in ran.stderr
-    assert 'doc("garden")/book[1]/p[1]' in ran.stdout
-    assert 'doc("more.latin")/book[1]/d:para[1]' in ran.stdout
-    assert 'doc("voyages")/book[1]/chapter[2]/p[1]' in ran.stdout
+    assert 'doc("garden.xml")/book[1]/p[1]' in ran.stdout
+    assert 'doc("more/latin.xml")/book[1]/d:para[1]' in ran.stdout
+    assert 'doc("voyages.xml")/book[1]/chapter[2]/p[1]' in ran.stdout
 
 
 def test_what_is_beyond_the_limits_is_named_with_its_line(ask: Ask, tmp_path: Path) -> None:
@@ -71,7 +72,7 @@ def test_what_is_beyond_the_limits_is_named_with_its_line(ask: Ask, tmp_path: Pa
 def test_an_element_without_text_shows_its_attributes(ask: Ask, tmp_path: Path) -> None:
     (tmp_path / "codes.xml").write_text('<codes>\n<code alpha="DE" name="Germany"/></codes>')
     ran = ask(tmp_path, "--query", 'collection()//code[@alpha = "DE"]')
-    assert ran.stdout == f'{tmp_path}/codes.xml:2  doc("codes")/codes[1]/code[1]\n    @alpha="DE" @name="Germany"\n'
+    assert ran.stdout == f'{tmp_path}/codes.xml:2  doc("codes.xml")/codes[1]/code[1]\n    @alpha="DE" @name="Germany"\n'
 
 
 def test_files_are_read_by_how_they_begin_and_others_are_counted(ask: Ask, tmp_path: Path) -> None:
@@ -94,8 +95,8 @@ def test_an_included_element_has_its_own_file_and_line(ask: Ask, tmp_path: Path)
     )
     book = tmp_path / "book.xml"
     assert ask(book, "--query", STORM).stdout.splitlines()[::2] == [
-        f'{tmp_path}/parts/one.xml:3  doc("book")/book[1]/chapter[1]/p[1]',
-        f'{book}:2  doc("book")/book[1]/p[1]',
+        f'{tmp_path}/parts/one.xml:3  doc("book.xml")/book[1]/chapter[1]/p[1]',
+        f'{book}:2  doc("book.xml")/book[1]/p[1]',
     ]
     assert ask(book, "--query", STORM, "--count", "--no-xinclude").stdout == "1\n"
     packed = subprocess.run([TOP / "tools" / "pack", "--no-xinclude", book], capture_output=True, text=True, timeout=60).stdout
@@ -133,16 +134,16 @@ def test_files_that_stand_in_others_are_read_with_them_alone(ask: Ask, tmp_path:
         (tmp_path / name).write_text(text)
     ran = ask(tmp_path, "--query", STORM, "--format", "paths")
     assert ran.stdout.splitlines() == [
-        'doc("b")/book[1]/chapter[1]/p[1]',
-        'doc("b")/book[1]/chapter[2]/p[1]',
-        'doc("b")/book[1]/p[1]',
-        'doc("d")/chapter[1]/p[1]',
+        'doc("b.xml")/book[1]/chapter[1]/p[1]',
+        'doc("b.xml")/book[1]/chapter[2]/p[1]',
+        'doc("b.xml")/book[1]/p[1]',
+        'doc("d.xml")/chapter[1]/p[1]',
     ]
     assert ran.stderr == "ask: 2 files passed over: 2 stand in other files, and are read with them (.xml 1, .ent 1)\n" and ran.returncode == 0
     assert ask(tmp_path / "b.xml", tmp_path / "a.xml", "--query", STORM, "--count").stdout == "4\n"
     assert ask(tmp_path, "--query", STORM, "--count", "--workers", 2).stdout == "4\n"
     assert ask(tmp_path, "--query", STORM, "--count", "--no-xinclude").stdout == "3\n"
-    names = ask(tmp_path, typed="names\ndrop b\nnames\n").stdout.splitlines()
+    names = ask(tmp_path, typed="names\ndrop b.xml\nnames\n").stdout.splitlines()
     assert names[0] == "elements: chapter 2, p 2, book 1" and names[3] == "elements: chapter 1, p 1"
 
 
@@ -151,17 +152,17 @@ def test_formats(ask: Ask, folder: Path) -> None:
     told = json.loads(ask(*files, "--format", "json").stdout)
     assert told["count"] == 4 and told["hints"] == []
     assert told["results"][3] == {
-        "document": "garden",
+        "document": "garden.xml",
         "file": f"{folder}/garden.xml",
         "line": 2,
-        "path": 'doc("garden")/book[1]/title[1]',
+        "path": 'doc("garden.xml")/book[1]/title[1]',
         "text": "Garden Notes",
     }
     rows = list(csv.DictReader(io.StringIO(ask(*files, "--format", "csv").stdout)))
     assert [row["line"] for row in rows] == ["3", "4", "8", "2"]
     assert ask(*files, "--format", "paths", "--offset", 1, "--limit", 2).stdout.splitlines() == [
-        'doc("voyages")/book[1]/chapter[1]/title[1]',
-        'doc("voyages")/book[1]/chapter[2]/title[1]',
+        'doc("voyages.xml")/book[1]/chapter[1]/title[1]',
+        'doc("voyages.xml")/book[1]/chapter[2]/title[1]',
     ]
     assert ask(*files, "--count").stdout == "4\n"
     assert ask(*files, "--count", "--limit", 1).stdout == "4\n"
@@ -171,14 +172,14 @@ def test_several_questions_are_answered_one_after_the_other(ask: Ask, folder: Pa
     none, titles, faulty = 'collection()//p[. contains text "calm"]', "collection()/book/title", "collection()//p[["
     asked = [word for path in (none, titles, faulty, STORM) for word in ("--query", path)]
     ran = ask(folder / "voyages.xml", *asked, "--format", "paths", "--limit", 1)
-    lines = [f"==> {none} <==", f"==> {titles} <==", 'doc("voyages")/book[1]/title[1]', f"==> {STORM} <==", 'doc("voyages")/book[1]/chapter[1]/p[2]']
+    lines = [f"==> {none} <==", f"==> {titles} <==", 'doc("voyages.xml")/book[1]/title[1]', f"==> {STORM} <==", 'doc("voyages.xml")/book[1]/chapter[1]/p[2]']
     assert (ran.stdout.splitlines(), ran.returncode) == (lines, 2)
     assert ran.stderr.count("syntax") == 1
     good = [*asked[:4], *asked[6:]]
     assert ask(folder / "voyages.xml", *good, "--count").stdout.splitlines() == [f"0 {none}", f"1 {titles}", f"2 {STORM}"]
     assert ask(folder / "voyages.xml", *good).stdout.splitlines()[1:4] == [
         f"==> {titles} <==",
-        f'{folder}/voyages.xml:3  doc("voyages")/book[1]/title[1]',
+        f'{folder}/voyages.xml:3  doc("voyages.xml")/book[1]/title[1]',
         "    Sea Voyages",
     ]
     told = json.loads(ask(folder / "voyages.xml", *good, "--format", "json").stdout)
@@ -236,10 +237,36 @@ def test_a_stop_list_of_an_installed_package(ask: Ask, folder: Path) -> None:
     assert (ran.stdout, ran.returncode) == ("1\n", 0)
 
 
+def test_abbreviations_of_a_language_and_of_a_file(ask: Ask, tmp_path: Path) -> None:
+    (tmp_path / "one.xml").write_text("<p>Dr. Hill asked Abt. Two, z.B. for ships</p>")
+    asked = [f'collection()/p[. contains text {it} same sentence]' for it in ('"dr" ftand "hill"', '"abt" ftand "two"', '"z.b" ftand "ships"')]
+    asked = [word for it in asked for word in ("--query", it)]
+    (tmp_path / "titles.txt").write_text("# titles\nABT.\n")
+
+    def counts(*words: object) -> list[str]:
+        return [line.split()[0] for line in ask(tmp_path / "one.xml", *asked, "--count", *words).stdout.splitlines()]
+
+    assert counts() == ["0", "0", "0"]
+    assert counts("--abbreviations", "en") == ["1", "0", "0"]
+    assert counts("--abbreviations", "de") == ["1", "1", "1"]
+    assert counts("--abbreviations", tmp_path / "titles.txt") == ["0", "1", "0"]
+    for more in ([], ["--workers", 2]):
+        assert counts("--abbreviations", "fr", "--abbreviations", tmp_path / "titles.txt", *more) == ["1", "1", "0"]
+
+
+def test_a_list_of_abbreviations_that_cant_be_taken_is_named(ask: Ask, folder: Path, tmp_path: Path) -> None:
+    (tmp_path / "bad").write_text("dr.\nz. B.\n")
+    ran = ask(folder / "voyages.xml", "--abbreviations", "en", "--abbreviations", tmp_path / "bad", "--query", STORM)
+    assert (ran.returncode, ran.stdout) == (2, "")
+    assert ran.stderr == f"ask: {tmp_path}/bad:2: a list of abbreviations has one word in each line\n"
+    ran = ask(folder / "voyages.xml", "--abbreviations", "klingon", "--query", STORM)
+    assert ran.returncode == 2 and "ask: there are lists of abbreviations for de, en, fr, and klingon is none of these and no file" in ran.stderr
+
+
 def test_several_programs_answer_as_one(ask: Ask, tmp_path: Path) -> None:
     for number in range(23):
         (tmp_path / f"d{number:02}.xml").write_text(f"<doc><p>number {number} {'even' if number % 2 == 0 else 'odd'}</p></doc>")
-    for query in ('collection()//p[. contains text "even"]', "collection()/doc", 'doc("d07")//p', 'doc("absent")//p', "collection()//p["):
+    for query in ('collection()//p[. contains text "even"]', "collection()/doc", 'doc("d07.xml")//p', 'doc("d07")//p', 'doc("absent")//p', "collection()//p["):
         one = ask(tmp_path, "--query", query, "--format", "paths")
         many = ask(tmp_path, "--query", query, "--format", "paths", "--workers", 4)
         assert (many.stdout, many.stderr, many.returncode) == (one.stdout, one.stderr, one.returncode)
@@ -292,6 +319,13 @@ def test_commands_from_a_pipe(ask: Ask, folder: Path) -> None:
             "<poem><line>A calm sea</line></poem>",
             ".",
             'collection()//line[. contains text "calm"]',
+            'load "a letter.xml"',
+            "<letter>Dr. Hill ran</letter>",
+            ".",
+            "abbreviations",
+            "dr.",
+            ".",
+            'doc("a letter.xml")/letter[. contains text "dr" ftand "hill" same sentence]',
             "//p",
             "stats",
             "files",
@@ -304,12 +338,12 @@ def test_commands_from_a_pipe(ask: Ask, folder: Path) -> None:
     ran = ask(folder / "voyages.xml", typed=typed + "\n")
     assert ran.returncode == 0
     assert ran.stdout.count("2 elements\n") == 1
-    assert ran.stdout.count("1 element\n") == 4
-    assert 'by-hand  doc("by-hand")/poem[1]/line[1]' in ran.stdout
+    assert ran.stdout.count("1 element\n") == 5
+    assert 'by-hand  doc("by-hand")/poem[1]/line[1]' in ran.stdout and 'a letter.xml  doc("a letter.xml")/letter[1]' in ran.stdout
     assert "hint" not in ran.stdout
     assert "<title>Sea Voyages</title>" in ran.stdout
     assert "collection()//p\n" in ran.stdout
-    assert f"voyages  {folder}/voyages.xml" in ran.stdout
+    assert f"voyages.xml  {folder}/voyages.xml" in ran.stdout
     assert "never" not in ran.stdout
 
 
@@ -324,20 +358,21 @@ def test_a_mark_is_asked_at_the_prompt(ask: Ask, folder: Path) -> None:
     ]
     shown = ask(folder / "voyages.xml", folder / "garden.xml", typed="\n".join(typed) + "\n").stdout.splitlines()
     assert shown[:3] == ["ok", "ok", "2 elements"]
-    assert shown[3::2][:2] == [f'{folder}/voyages.xml  doc("voyages")/book[1]/chapter[{number}]/p[{number % 2 + 1}]' for number in (1, 2)]
+    assert shown[3::2][:2] == [f'{folder}/voyages.xml  doc("voyages.xml")/book[1]/chapter[{number}]/p[{number % 2 + 1}]' for number in (1, 2)]
     assert shown[4::2][:2] == ["    (the document was edited since it was read)"] * 2
     assert shown[7] == "1 element" and shown[-1] == "no document and no mark is called absent"
-    assert f"{folder}/garden.xml:3" in ask(folder / "garden.xml", typed="mark m\nquery at m collection()//p\n").stdout
+    for mark in ("m", '"a mark"'):
+        assert f"{folder}/garden.xml:3" in ask(folder / "garden.xml", typed=f"mark {mark}\nquery at {mark} collection()//p\n").stdout
 
 
-FRONTS = ["", "query ", "query  at  m  ", "print ", "insert last ", "insert\tbefore ", "replace ", "delete "]
+FRONTS = ["", "query ", "query  at  m  ", 'query at "m n" ', "print ", "insert last ", "insert\tbefore ", "replace ", "delete "]
 
 
 @pytest.mark.parametrize("front", FRONTS, ids=lambda it: it.replace("\t", "-") or "bare")
 def test_a_caret_stands_under_the_fault(ask: Ask, folder: Path, front: str) -> None:
     path = 'collection()//é[1] & "x"'
     block = "<p/>\n.\n" if front.startswith(("insert", "replace")) else ""
-    shown = ask(folder / "garden.xml", typed=f"mark m\n{front}{path}\n{block}").stdout.splitlines()
+    shown = ask(folder / "garden.xml", typed=f'mark m\nmark "m n"\n{front}{path}\n{block}').stdout.splitlines()
     caret = next(number for number, line in enumerate(shown) if line.strip() == "^")
     assert shown[caret - 1] == f"    {path}"
     assert shown[caret].index("^") == shown[caret - 1].index("&")
@@ -367,11 +402,11 @@ def test_packing(program: Path, folder: Path, tmp_path: Path) -> None:
     ran = subprocess.run([TOP / "tools" / "pack", "--query", "collection()/book", folder], capture_output=True, timeout=60)
     assert ran.returncode == 1
     assert b"empty.xml:1: the file is empty" in ran.stderr and b"malformed.xml:3:" in ran.stderr
-    assert f"# {folder}/more/latin.xml\nload more.latin\n".encode() in ran.stdout
+    assert re.search(f'\n# {folder}/more/latin.xml\nload [0-9]+ "more/latin.xml"\n'.encode(), ran.stdout) and ran.stdout.startswith(b"session 2\n")
     session = tmp_path / "packed.ftq"
     session.write_bytes(ran.stdout)
     answered = subprocess.run([program, session], capture_output=True, text=True, timeout=60)
-    assert answered.stdout.splitlines() == ["ok"] * 3 + ["= 3", 'doc("garden")/book[1]', 'doc("more.latin")/book[1]', 'doc("voyages")/book[1]']
+    assert answered.stdout.splitlines() == ["ok"] * 3 + ["= 3", 'doc("garden.xml")/book[1]', 'doc("more/latin.xml")/book[1]', 'doc("voyages.xml")/book[1]']
     assert answered.returncode == 0
 
 

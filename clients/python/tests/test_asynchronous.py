@@ -27,6 +27,9 @@ def test_calls_are_answered_one_after_the_other(program: Path) -> None:
             assert len(await session.query("collection()/a")) == 19 and len(await session.query_at("m", "collection()/a")) == 20
             assert await session.explain('ftnot (ftnot "a")') == '"a"'
             assert (await session.stats()).documents == 19
+            await session.load("letter", "<a>Dr. Hill ran</a>")
+            await session.abbreviations("dr.")
+            assert len(await session.query('collection()/a[. contains text "dr" ftand "hill" same sentence]')) == 1
         with pytest.raises(SessionClosed):
             session.session.query("collection()/a")
 

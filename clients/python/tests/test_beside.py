@@ -114,7 +114,7 @@ def test_a_terminal_gets_the_same_colours(server: Server, program: Path, folder:
         assert (b"\x1b[" in beside) == (variables in ({}, {"COLORTERM": "truecolor"}) or "NO_COLOR" in variables)
 
 
-OTHERWISE = [["--no-dtd"], ["--glob", "*.xml"], ["--blocks", "p"], ["--drop-blanks"], ["--stem", "english"], ["--workers", "2"]]
+OTHERWISE = [["--no-dtd"], ["--glob", "*.xml"], ["--blocks", "p"], ["--drop-blanks"], ["--stem", "english"], ["--abbreviations", "en"], ["--workers", "2"]]
 
 
 @pytest.mark.parametrize("words", OTHERWISE, ids=" ".join)
@@ -125,6 +125,25 @@ def test_what_is_read_otherwise_is_answered_by_itself(server: Server, program: P
     for paths in ([folder / "a.xml"], [folder / "more"], [folder, folder / "a.xml"]):
         called([*paths, "--query", STORM, *words], runtime, program, folder)
     assert server.status()["calls"] == before
+
+
+def test_calls_with_the_same_abbreviations_are_answered(program: Path, tmp_path: Path) -> None:
+    top, titles = tmp_path / "letters", tmp_path / "titles"
+    top.mkdir()
+    (top / "one.xml").write_text("<p>Dr. Hill ran</p>")
+    titles.write_text("dr.\n")
+    query = ["--query", 'collection()/p[. contains text "dr" ftand "hill" same sentence]', "--count"]
+    with served(program, top, "--abbreviations", titles, XDG_RUNTIME_DIR=str(tmp_path)) as it:
+        it.comes_to(idle=2)
+        check_same(it, [top, *query, "--abbreviations", titles], tmp_path, program, top)
+        check_same(it, [top, *query, "--abbreviations", "titles"], tmp_path, program, tmp_path)
+        assert called([top, *query, "--abbreviations", titles], tmp_path, program, top).stdout == b"1\n"
+        before = it.status()["calls"]
+        assert called([top, *query], tmp_path, program, top).stdout == b"0\n"
+        titles.write_text("e.g.\n")
+        assert called([top, *query, "--abbreviations", titles], tmp_path, program, top).stdout == b"0\n"
+        assert called([top, *query, "--abbreviations", "de"], tmp_path, program, top).stdout == b"1\n"
+        assert it.status()["calls"] == before
 
 
 def test_another_program_is_asked_itself(server: Server, program: Path, folder: Path, runtime: Path, tmp_path: Path) -> None:

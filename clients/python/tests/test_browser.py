@@ -136,7 +136,7 @@ def test_a_line_can_be_broken_and_is_asked_as_one(browser: Browser) -> None:
 
 
 def test_a_document_is_stepped_through_also_over_its_parts(browser: Browser) -> None:
-    browser.open("/document", name="a", q=QUESTION, hit=1)
+    browser.open("/document", name="a.xml", q=QUESTION, hit=1)
     browser.press("n")
     assert browser.focused().get_attribute("id") == "hit-2" and browser.script("location.hash") == "#hit-2"
     browser.one("#after").click()
@@ -144,7 +144,7 @@ def test_a_document_is_stepped_through_also_over_its_parts(browser: Browser) -> 
     browser.press("p")
     assert browser.focused().get_attribute("id") == "hit-2"
     last = int(browser.all("[id^=hit-]")[-1].get_attribute("id").removeprefix("hit-"))
-    browser.open("/document", name="a", q=QUESTION, hit=last)
+    browser.open("/document", name="a.xml", q=QUESTION, hit=last)
     assert not browser.all(f"#hit-{last + 1}")
     browser.press("n")
     browser.comes(lambda: browser.all(f"#hit-{last + 1}"))
@@ -238,7 +238,7 @@ def test_pages_fit_and_are_legible(browser: Browser, width: int, scheme: str) ->
     browser.size(width, 800)
     browser.scheme(scheme)
     pages: list[tuple[str, dict[str, Any]]] = [("/", {}), ("/", {"q": QUESTION}), ("/", {"q": "collection()//p["})]
-    pages += [("/document", {"name": name, "q": QUESTION}) for name in "ab"]
+    pages += [("/document", {"name": f"{name}.xml", "q": QUESTION}) for name in "ab"]
     pages += [("/", {"q": "collection()//*", "limit": 1000}), ("/", {"q": f"collection()//{'x' * 300}"})]
     for path, values in pages:
         browser.open(path, **values)
@@ -256,7 +256,7 @@ def test_filters_of_a_narrow_page_are_opened(browser: Browser) -> None:
 
 def test_markup_in_documents_and_questions_does_nothing(browser: Browser) -> None:
     hostile = "<img src=x onerror=\"document.title='hit'\"><script>document.title='hit'</script>"
-    for path, values in (("/", {"q": hostile}), ("/", {"q": QUESTION}), ("/document", {"name": "b", "q": QUESTION}), ("/document", {"name": hostile})):
+    for path, values in (("/", {"q": hostile}), ("/", {"q": QUESTION}), ("/document", {"name": "b.xml", "q": QUESTION}), ("/document", {"name": hostile})):
         browser.open(path, **values)
         assert browser.script("document.scripts.length") == 1 and not browser.all("img") and browser.driver.title != "hit"
     browser.driver.get_log("browser")

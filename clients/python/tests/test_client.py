@@ -115,6 +115,38 @@ def test_lists_are_looked_at(session: Session) -> None:
     assert len(session.query('collection()//p[. contains text "a ship" using stop words at "common"]')) == 1
 
 
+HILL = 'collection()/a[. contains text "dr" ftand "hill" same sentence]'
+
+
+def test_abbreviations_spare_periods_and_marks_keep_them(session: Session) -> None:
+    session.load("d", "<a>Dr. Hill ran</a>")
+    assert session.query(HILL) == []
+    session.mark("before")
+    session.abbreviations("# titles\nDR.")
+    assert [it.line for it in session.query(HILL)] == ['doc("d")/a[1]'] and session.query_at("before", HILL) == []
+    with pytest.raises(BadLine) as caught:
+        session.abbreviations("dr.\nz. B.")
+    assert caught.value.line == 2 and len(session.query(HILL)) == 1
+    session.mark("spared")
+    session.abbreviations("")
+    session.interrupt()
+    assert session.query(HILL) == [] and session.query_at("before", HILL) == [] and len(session.query_at("spared", HILL)) == 1
+    assert session.processes == 2
+
+
+def test_a_session_of_format_1_has_bare_names_and_no_abbreviations(program: Path) -> None:
+    with Session(program, session_format=1) as session:
+        session.load("d", "<a>\n.\n</a>")
+        assert session.print("collection()/a") == ["<a>&#10;.&#10;</a>"]
+        with pytest.raises(ValueError):
+            session.abbreviations("dr.")
+        with pytest.raises(BadCommand):
+            session.command("abbreviations")
+        with pytest.raises(BadCommand):
+            session.load("two words", "<a/>")
+        assert len(session.query("collection()/a")) == 1
+
+
 def test_a_selection_is_explained(session: Session) -> None:
     assert session.explain('ftnot ("a" ftor ftnot "b")') == 'ftnot "a" ftand "b"'
     with pytest.raises(QueryFault):
@@ -319,7 +351,7 @@ def test_processes_are_logged(program: Path, caplog: pytest.LogCaptureFixture) -
         assert told == [
             ("DEBUG", f"{program} was started as process {first}"),
             ("DEBUG", f"{program} was started as process {session.pid}"),
-            ("INFO", f"process {session.pid} carries a session on: 1 commands of 14 bytes are sent again"),
+            ("INFO", f"process {session.pid} carries a session on: 1 commands of 24 bytes are sent again"),
         ]
 
 
@@ -366,5 +398,6 @@ def test_the_program_gets_large_pages_unless_the_caller_says_otherwise(
 
 
 def test_the_bytes_of_commands() -> None:
-    assert command_bytes("load d", b".a\nb\n") == b"load d\n..a\nb\n\n.\n"
+    assert command_bytes("load d", b".a\nb\n") == b"load 5 d\n.a\nb\n\n"
+    assert command_bytes("load d", b".a\nb\n", 1) == b"load d\n..a\nb\n\n.\n"
     assert command_bytes("query collection()/é") == "query collection()/é\n".encode()

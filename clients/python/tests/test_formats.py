@@ -18,7 +18,7 @@ sys.path.insert(0, str(TOP / "tests" / "formats"))
 
 from reader import Command, commands  # noqa: E402
 
-from ftq_client import BadCommand, BadName, Element, NameTaken, Names, NoSuchDocument, NoSuchName, Session, command_bytes, command_words, name_word  # noqa: E402
+from ftq_client import BadCommand, BadLine, BadName, Element, NameTaken, Names, NoSuchDocument, NoSuchName, Session, command_bytes, command_words, name_word  # noqa: E402
 
 NAMES = ["d", "a b", "more/latin.xml", 'say "hi".xml', '"', "größe €.xml", "'", "x" * 64, "\u2028", "\x80", "..", "# no comment", "at", "tab\u00a0"]
 BLOCKS = [b"", b"\n", b".", b".\n", b"\n.\n", b"..\n.", b"a\r\n", b"<a>\n.\n</a>", "é".encode(), b"\xff\xfe", b"load 3 x\nabc\n", b"\xef\xbb\xbf<a/>"]
@@ -46,7 +46,7 @@ def test_names_and_blocks_are_read_as_they_were_given() -> None:
             session = b"session 2\n" + command_bytes(f"load {name_word(name, 2)}", block, 2) + command_bytes(f"drop {name_word(name, 2)}", None, 2)
             assert read(session) == [Command(0, "load", name, block, None), Command(0, "drop", name, None, None)]
     for block in blocks:
-        row = [("insert last", 'doc("a b")/a'), ("replace", "collection()/a"), ("stems", "")]
+        row = [("insert last", 'doc("a b")/a'), ("replace", "collection()/a"), ("stems", ""), ("abbreviations", "")]
         session = b"".join(command_bytes(f"{word} {rest}".rstrip(), block, 2) for word, rest in row)
         assert read(b"session 2\n" + session) == [Command(0, word, rest, block, None) for word, rest in row]
         if not block.startswith(b"\xef\xbb\xbf"):
@@ -57,6 +57,8 @@ def test_the_bytes_of_a_session() -> None:
     assert command_bytes("load d", b".a\nb\n", 2) == b"load 5 d\n.a\nb\n\n"
     assert command_bytes('  stop \t "o/f"\r', "é", 2) == 'stop 2 \t "o/f"\né\n'.encode()
     assert command_bytes('drop "a b"', None, 2) == b'drop "a b"\n'
+    assert command_bytes("abbreviations", "dr.\nä.", 2) == "abbreviations 7\ndr.\nä.\n".encode()
+    assert command_bytes("abbreviations", None, 1) == b"abbreviations\n"
     assert name_word("d", 2) == "d" and name_word('a"b', 2) == '"a""b"' and name_word("x" * 65, 2) == f'"{"x" * 65}"' and name_word("a b", 1) == "a b"
     assert command_words('load "a b"', 2) == ["load", "a b"] and command_words('load "a b"', 1) == ["load", '"a', 'b"']
     assert command_words('drop\t"say ""hi"""  \r', 2) == ["drop", 'say "hi"'] and command_words('drop "a"b', 2) == ["drop", '"a"b']
@@ -117,15 +119,42 @@ def test_a_session_is_carried_on_in_format_2(standing: Path) -> None:
         assert session.query("collection()/a") == []
 
 
+def test_abbreviations_are_sent_and_sent_again(standing: Path) -> None:
+    with Session(standing, session_format=2, limit=300) as session:
+        session.load("d", "<a>Dr. Hill ran</a>")
+        for lines in ("e.g.", "# none", b"dr.\nProf."):
+            session.abbreviations(lines)
+        with pytest.raises(BadLine) as bad:
+            session.abbreviations("dr.\n\ne.g. x")
+        assert bad.value.line == 3
+        kept = [b"load 19 d\n<a>Dr. Hill ran</a>\n", b"abbreviations 9\ndr.\nProf.\n"]
+        assert session._history.commands == kept
+        for _ in range(20):
+            session.query("collection()/a")
+        assert session.processes > 1 and session._history.commands == kept
+        session.mark("m")
+        session.abbreviations("")
+        assert session._history.commands == [*kept, b"mark m\n", b"abbreviations 0\n\n"]
+
+
+def test_format_1_has_no_abbreviations(standing: Path) -> None:
+    with Session(standing, session_format=1) as session:
+        with pytest.raises(ValueError, match="abbreviations takes no block in a session of format 1"):
+            session.abbreviations("dr.")
+        with pytest.raises(BadCommand):
+            session.command("abbreviations")
+        assert session.query("collection()/a") == []
+
+
 def test_both_formats_answer_alike(standing: Path, program: Path) -> None:
     answers = []
-    for path, form in ((standing, 1), (standing, 2), (program, 1)):
+    for path, form in ((standing, 1), (standing, 2), (program, 1), (program, 2)):
         with Session(path, session_format=form) as session:
             session.load("one", b"<a>x</a>")
             session.load("two.xml", b"<a>\n.\n..z\n</a>")
             session.stop("s", b"a")
             answers.append((session.query("collection()/a"), session.print("collection()/a"), session.print('doc("one")/a')))
-    assert answers[0] == answers[1] == answers[2]
+    assert all(it == answers[0] for it in answers)
 
 
 def test_a_format_that_is_none() -> None:
@@ -195,6 +224,6 @@ def test_packing_in_both_formats(tmp_path: Path) -> None:
         return ran.stdout
 
     query = Command(0, "query", "collection()/a", None, None)
-    assert packed("--session-format", "2").startswith(b"session 2\n#")
-    assert read(packed("--session-format", "2")) == [Command(0, "load", "a b/c.xml", b"<a>\n.\n</a>", None), query]
+    assert packed().startswith(b"session 2\n#") and packed() == packed("--session-format", "2")
+    assert read(packed()) == [Command(0, "load", "a b/c.xml", b"<a>\n.\n</a>", None), query]
     assert read(packed("--session-format", "1")) == [Command(0, "load", "a-b.c", b"<a>\n.\n</a>", None), query]

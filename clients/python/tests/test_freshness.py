@@ -100,15 +100,16 @@ def test_many_changes_one_after_the_other(server: Server, program: Path, folder:
     for number in range(40):
         (folder / "a.xml").write_text(f"<r><p>storm number {number % 10}</p></r>")
         rows = [it for it in server.lines(f'collection()//p[. contains text "storm number {number % 10}"]') if it["part"] == "element"]
-        assert [it["document"] for it in rows] == ["a"] and not rows[0]["note"]
-    assert [it["document"] for it in server.lines("collection()/r") if it["part"] == "element"] == ["a", "b", "c", "more.book", "more.typed"]
+        assert [it["document"] for it in rows] == ["a.xml"] and not rows[0]["note"]
+    names = ["a.xml", "b.xml", "c.xml", "more/book.xml", "more/typed.xml"]
+    assert [it["document"] for it in server.lines("collection()/r") if it["part"] == "element"] == names
 
 
 def test_many_changes_at_once(server: Server, folder: Path) -> None:
     for number in range(60):
         (folder / f"new{number:02}.xml").write_text(f"<r><p>storm {'and more ' * 8_000}{number}</p></r>")
     rows = server.lines('collection()/r[. contains text "and more"]', limit=100)
-    assert [it["document"] for it in rows if it["part"] == "element"] == [f"new{number:02}" for number in range(60)]
+    assert [it["document"] for it in rows if it["part"] == "element"] == [f"new{number:02}.xml" for number in range(60)]
     assert len(server.children()) == 2
     for number in range(60):
         (folder / f"new{number:02}.xml").unlink()

@@ -82,7 +82,7 @@ def test_a_question_is_no_markup(server: Server, text: str) -> None:
         page = harmless(server.get("/", q=question).text)
         assert page.xpath("//textarea")[0].text_content().strip() == question
         assert page.xpath("//title")[0].text_content() == question
-        harmless(server.get("/document", name="texts", q=question).text)
+        harmless(server.get("/document", name="texts.xml", q=question).text)
 
 
 @pytest.mark.parametrize("text", HOSTILE)
@@ -107,7 +107,7 @@ def test_texts_attributes_names_and_files_are_no_markup(server: Server, folder: 
         for question in ("", "collection()//*", 'collection()//*[. contains text "storm alert script"  any word]'):
             told = harmless(server.get("/document", name=name, q=question).text)
             assert told.xpath("//article/h1")[0].text_content() == file
-            if name == "texts":
+            if name == "texts.xml":
                 assert all(it in shown(told) for it in HOSTILE) and "script" in [it.text for it in told.xpath("//span[@class='tag']")]
 
 
@@ -119,7 +119,7 @@ def test_lines_of_json_are_no_markup_to_a_browser(server: Server) -> None:
     assert refused.status == 404 and refused.headers["content-type"] == "application/json" and SCRIPT not in refused.text
 
 
-EVERYWHERE = ["/", "/?q=collection()//p", "/?q=%5B", "/document?name=texts", "/page.css", "/page.js", "/icon.svg", "/absent"]
+EVERYWHERE = ["/", "/?q=collection()//p", "/?q=%5B", "/document?name=texts.xml", "/page.css", "/page.js", "/icon.svg", "/absent"]
 EVERYWHERE += ["/api/query?q=collection()//p", "/api/status", "/api/absent", "/api/query", "/?limit=x"]
 
 
@@ -232,7 +232,7 @@ PATHS += ["/assets/page.css", "//etc/passwd", "/..%5c..%5cetc"]
 def test_no_file_can_be_asked_for_by_its_path(server: Server, folder: Path, path: str) -> None:
     answered = server.get(path)
     assert answered.status == 404 and b"root:" not in answered.body
-    for name in (path, "../" * 9 + "etc/passwd", "/etc/passwd", f"{folder}/texts.xml", "texts.xml", "file:///etc/passwd"):
+    for name in (path, "../" * 9 + "etc/passwd", "/etc/passwd", f"{folder}/texts.xml", "./texts.xml", "/texts.xml", "file:///etc/passwd"):
         told = server.get("/document", name=name)
         assert "there is no such document" in told.text and "root:" not in told.text
         assert server.lines(f'doc("{name}")//p')[-1]["part"] == "refused"

@@ -52,8 +52,12 @@ def run(installed: Path, folder: Path, *words: object, **variables: object) -> s
 def test_the_commands_of_the_wheel(installed: Path, program: Path, tmp_path: Path) -> None:
     (tmp_path / "letter.xml").write_text(LETTER)
     ran = run(installed, tmp_path, "ftq-ask", "letter.xml", "--query", STORM, "--format", "paths", "--program", program)
-    assert (ran.returncode, ran.stdout, ran.stderr) == (0, 'doc("letter")/letter[1]/p[1]\n', "")
-    assert run(installed, tmp_path, "ftq-pack", "letter.xml").stdout == f"# letter.xml\nload letter\n{LETTER}\n.\n"
+    assert (ran.returncode, ran.stdout, ran.stderr) == (0, 'doc("letter.xml")/letter[1]/p[1]\n', "")
+    assert run(installed, tmp_path, "ftq-pack", "letter.xml").stdout == f"session 2\n# letter.xml\nload {len(LETTER)} letter.xml\n{LETTER}\n"
+    (tmp_path / "titles.xml").write_text("<p>Dr. Hill ran</p>")
+    hill = 'collection()/p[. contains text "dr" ftand "hill" same sentence]'
+    asked = ["ftq-ask", "titles.xml", "--query", hill, "--count", "--program", program]
+    assert [run(installed, tmp_path, *asked, *more).stdout for more in ([], ["--abbreviations", "de"])] == ["0\n", "1\n"]
     assert run(installed, tmp_path, "ftq-ask").returncode == 2
     code = "import ftq_client; from importlib.metadata import version; print(ftq_client.__version__ == version('ftq-client'))"
     assert run(installed, tmp_path, "python", "-c", code).stdout == "True\n"
@@ -92,7 +96,7 @@ def test_the_package_holds_what_the_wheel_holds_and_runs_unpacked(packed: Path, 
     environment = {"PATH": "/usr/bin:/bin", "PYTHONPATH": str(packages), "FTQ": str(program), "LC_ALL": "C.UTF-8"}
     words = [str(top / "usr/bin/ftq-ask"), "letter.xml", "--query", STORM, "--format", "paths"]
     ran = subprocess.run(words, cwd=tmp_path, env=environment, capture_output=True, text=True, timeout=120)
-    assert (ran.returncode, ran.stdout, ran.stderr) == (0, 'doc("letter")/letter[1]/p[1]\n', "")
+    assert (ran.returncode, ran.stdout, ran.stderr) == (0, 'doc("letter.xml")/letter[1]/p[1]\n', "")
     source = TOP / "clients" / "python" / "src"
     files = [it.relative_to(source) for package in ("ftq_client", "ftq_ask") for it in (source / package).rglob("*") if it.is_file() and "__pycache__" not in it.parts]
     assert files and [it for it in files if not (packages / it).is_file()] == []

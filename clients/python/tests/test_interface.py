@@ -69,7 +69,7 @@ QUESTIONS: list[dict[str, Any]] = [
     {"q": STORM},
     {"q": STORM, "limit": 1, "from": 2},
     {"q": "collection()//*", "element": "empty"},
-    {"q": "collection()//*", "document": "a", "whole": True},
+    {"q": "collection()//*", "document": "a.xml", "whole": True},
     {"q": "collection()//p[. contains text 'don''t']", "as_typed": True},
     {"q": "collection()//para"},
     {"q": 'collection()//p[. contains text "storm" and "ship"]'},
@@ -110,7 +110,7 @@ def test_every_other_address_answers_as_described(server: Server, described: dic
     for path in asked:
         check_response(described, described["paths"][path]["get"], server.get(path))
     assert json.loads(server.get("/api/names").body) == {"elements": {"r": 1, "p": 1, "empty": 1, "long": 1}, "attributes": {"n": 1}}
-    assert [it["name"] for it in json.loads(server.get("/api/files").body)["documents"]] == ["a", "long"]
+    assert [it["name"] for it in json.loads(server.get("/api/files").body)["documents"]] == ["a.xml", "long.xml"]
 
 
 def test_what_may_be_asked_is_what_is_described(described: dict[str, Any]) -> None:

@@ -9,6 +9,7 @@ import pytest
 pytest.importorskip("lxml")
 
 from ftq_ask import lists  # noqa: E402
+from ftq_ask.abbreviating import LANGUAGES, Abbreviations  # noqa: E402
 from ftq_ask.lists import NoList, Stems, stop_words  # noqa: E402
 from ftq_ask.showing import Asked, shortened  # noqa: E402
 from ftq_ask.words import count_words, key, words_of  # noqa: E402
@@ -61,14 +62,27 @@ def test_a_stop_list_that_isnt_there_is_named(monkeypatch: pytest.MonkeyPatch) -
         stop_words("english")
 
 
-@pytest.mark.parametrize("language", ["english", "french", "german"])
+@pytest.mark.parametrize("language", LANGUAGES)
 def test_lists_of_abbreviations_have_one_word_in_a_line(language: str, session: Session) -> None:
-    text = (Path(lists.__file__).parent / "abbreviations" / f"{language}.txt").read_text(encoding="utf-8")
+    text = Abbreviations([language]).lines.decode("utf-8")
     rows = [it for it in text.splitlines() if not it.startswith("#")]
     keys = [key(told[0]) for it in rows for told in words_of(it)]
     assert len(rows) == len(keys) == len(set(keys)) > 50 and all(it.endswith(".") for it in rows)
-    # A stop list is one word in a line too, and the program refuses another one.
-    session.stop(language, text)
+    session.abbreviations(text)
+
+
+def test_several_lists_of_abbreviations_are_one(tmp_path: Path) -> None:
+    (tmp_path / "titles").write_bytes(b"\xef\xbb\xbf# titles\ndr.\n")
+    (tmp_path / "en").write_bytes(b"ed.\r\n\r\nvol.")
+    both = Abbreviations([str(tmp_path / it) for it in ("titles", "en")])
+    assert both.lines == b"# titles\ndr.\n\ned.\r\n\r\nvol."
+    assert [both.place(it) for it in (1, 2, 4, 6)] == [f"{tmp_path}/titles:1", f"{tmp_path}/titles:2", f"{tmp_path}/en:1", f"{tmp_path}/en:3"]
+    with pytest.raises(IndexError):
+        both.place(7)
+    assert Abbreviations([]).lines == b""
+    for word in ("english", str(tmp_path), ""):
+        with pytest.raises(ValueError, match="de, en, fr"):
+            Abbreviations([word])
 
 
 def test_texts_are_shortened_around_the_words_that_were_asked_for() -> None:

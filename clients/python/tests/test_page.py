@@ -46,6 +46,7 @@ def test_a_command_writes_what_the_page_shows(command: str, output: str, program
 
 GAPS = {
     "`.`, `!` or `?`": [". ", "!", "<b/>? ", ".<b>"],
+    "a `.` directly behind an [abbreviation](#abbreviations), and no other mark of these": [". ", ".<b>", "<!-- . -->., ", ".\n"],
     "another mark (`,` `;` `:` `…` `。`), or one line end": [", ", "; ", " : ", "…", "。", "\n", " \t\n "],
     "an empty line: a line end, blanks or nothing, a line end": ["\n\n", "\n \t\n", "\r\n\r\n", "\n<b/> \n"],
     "the begin or the end of an element in the list below": ["<p/>", "<li>", "</li>", "</p><b>"],
@@ -59,6 +60,7 @@ def test_sentences_and_paragraphs_are_as_the_manual_says(session: Session) -> No
     rows = re.findall(r"^\| (.+?) \| (yes|no) \| (yes|no) \|$", page, re.MULTILINE)
     assert [what for what, _, _ in rows] == list(GAPS)
     for what, sentence, paragraph in rows:
+        session.abbreviations("one." if "abbreviation" in what else "two.")
         for gap in GAPS[what]:
             opened = "".join(f"<{name}>" for name in re.findall(r"</(\w+)>", gap))
             closed = "".join(f"</{name}>" for name in re.findall(r"<(\w+)>", gap))

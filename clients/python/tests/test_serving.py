@@ -62,7 +62,7 @@ def found(page: html.HtmlElement, path: str) -> list[str]:
 def test_a_page_shows_elements_in_reading_order_with_marks(server: Server, library: Path) -> None:
     page = page_of(server, "/", q=STORM)
     assert found(page, "//li[@class='hit']/a") == [f"{library}/garden.xml:1", f"{library}/voyages.xml:3", f"{library}/voyages.xml:4"]
-    assert found(page, "//li[@class='hit']/code")[1] == 'doc("voyages")/book[1]/chapter[1]/p[1]'
+    assert found(page, "//li[@class='hit']/code")[1] == 'doc("voyages.xml")/book[1]/chapter[1]/p[1]'
     assert found(page, "//li[@class='hit']/p")[1] == "A heavy storm struck the ship at night."
     assert found(page, "//li[@class='hit']//mark") == ["storm"] * 4
     assert found(page, "//h1") == ["3 elements"]
@@ -79,14 +79,15 @@ def test_filters_have_counts_and_lead_to_what_they_count(server: Server) -> None
         name, count = found(link, "*")
         assert found(told, "//h1")[0] == f"{count} element{'' if count == '1' else 's'} of 9"
         assert len(told.xpath("//li[@class='hit']")) == int(count)
-    both = page_of(server, "/", q=question, element="p", document="voyages")
+    both = page_of(server, "/", q=question, element="p", document="voyages.xml")
     assert found(both, "//h1") == ["2 elements of 9"]
     assert dict(zip(found(both, "//aside//*[@class='name']"), found(both, "//aside//*[@class='count']")))["p"] == "2"
+    assert found(page_of(server, "/", q=question, element="p", document="voyages"), "//h1") == ["2 elements of 9"]
     assert {urlsplit(it.get("href")).query for it in both.xpath("//p[@class='filtered']/a")} != set()
 
 
 def test_every_address_keeps_the_question(server: Server) -> None:
-    for path, values in (("/", {"limit": 1, "from": 2}), ("/document", {"name": "voyages"})):
+    for path, values in (("/", {"limit": 1, "from": 2}), ("/document", {"name": "voyages.xml"})):
         page = page_of(server, path, q=STORM, **values)
         links = [it for it in page.xpath("//main//a") if it.get("href")]
         assert len(links) >= 3
@@ -128,14 +129,14 @@ def test_hints_stand_beside_an_answer_of_nothing(server: Server) -> None:
 
 
 def test_a_document_has_all_marks_and_a_list_of_what_was_found(server: Server, library: Path) -> None:
-    page = page_of(server, "/document", name="voyages", q='collection()//*[. contains text "storm"]', element="p")
+    page = page_of(server, "/document", name="voyages.xml", q='collection()//*[. contains text "storm"]', element="p")
     assert found(page, "//article/h1") == [f"{library}/voyages.xml"]
     assert found(page, "//ol[@class='listed']//a/code") == ["p", "p"]
     assert [it.get("id") for it in page.xpath("//div[contains(@class, 'begins')]")] == ["hit-1", "hit-2"]
     assert found(page, "//article//mark") == ["storm", "storm", "storm"]
     blocks = [found(it, "p") for it in page.xpath("//article//div[contains(@class, 'block')]") if it.xpath("p")]
     assert blocks == [["Sea Voyages"], ["The Storm"], ["A heavy storm struck the ship at night."], ["No storm storm was seen."]]
-    inner = page_of(server, "/document", name="voyages", q='collection()//b//*[. contains text "storm"]')
+    inner = page_of(server, "/document", name="voyages.xml", q='collection()//b//*[. contains text "storm"]')
     assert [(it.get("id"), it.text_content()) for it in inner.xpath("//span[@class='found']")] == [("hit-1", "storm")]
     assert found(page_of(server, "/document", name="garden"), "//article//mark") == []
 
@@ -147,7 +148,7 @@ def test_a_long_document_comes_in_sheets(program: Path, tmp_path: Path) -> None:
         link = page_of(it, "/", q=question).xpath("//li[@class='hit']/a")[0].get("href")
         page = page_of(it, link)
         assert found(page, "//div[@id='hit-1']/p") == ["word 900"] and found(page, "//nav/span")[0] == "part 3 of 3"
-        seen = [text for sheet in (1, 2, 3) for text in found(page_of(it, "/document", name="many", sheet=sheet), "//article//div/p")]
+        seen = [text for sheet in (1, 2, 3) for text in found(page_of(it, "/document", name="many.xml", sheet=sheet), "//article//div/p")]
         assert seen == [f"word {number}" for number in range(1_000)]
 
 
@@ -241,13 +242,33 @@ def test_a_question_has_its_time(program: Path, library: Path) -> None:
 
 def test_several_programs_that_divide_the_documents_are_served_too(program: Path, library: Path) -> None:
     with served(program, library, "--workers", 2) as it:
-        assert [row["document"] for row in it.lines(STORM)[2:-1]] == ["garden", "voyages", "voyages"]
+        assert [row["document"] for row in it.lines(STORM)[2:-1]] == ["garden.xml", "voyages.xml", "voyages.xml"]
         connection, response, name = it.begun(LONG)
         it.comes_to(asked=1)
         it.post("/api/stop", {"id": name})
         assert json.loads(response.read().splitlines()[-1])["stopped"]
         connection.close()
         assert it.lines(STORM)[1]["count"] == 3
+
+
+def test_abbreviations_are_those_of_the_call_also_after_a_change(program: Path, tmp_path: Path) -> None:
+    question = 'collection()/p[. contains text "dr" ftand "hill" same sentence]'
+    (tmp_path / "one.xml").write_text("<p>Dr. Hill ran</p>")
+    for more in ([], ["--workers", 2]):
+        with served(program, tmp_path, "--abbreviations", "en", *more) as it:
+            assert it.lines(question)[1]["count"] == 1
+            (tmp_path / "two.xml").write_text("<p>Is Dr. Hill here?</p>")
+            assert it.lines(question)[1]["count"] == 2
+            it.comes_to(idle=2)
+            for number in it.children():
+                os.kill(number, signal.SIGKILL)
+            counts = [[row["count"] for row in it.lines(question, as_typed=number % 2) if row["part"] == "count"] for number in range(6)]
+            assert counts[-1] == [2]
+            (tmp_path / "two.xml").unlink()
+    (tmp_path / "bad").write_text("e. g.")
+    words = [TOP / "tools" / "ask", "serve", tmp_path, "--program", program, "--port", "0", "--abbreviations", tmp_path / "bad"]
+    ran = subprocess.run(words, capture_output=True, text=True, timeout=60)
+    assert ran.returncode == 2 and f"{tmp_path}/bad:1: a list of abbreviations has one word in each line" in ran.stderr
 
 
 def test_it_ends_at_an_interrupt_also_while_a_question_is_asked(program: Path, library: Path) -> None:

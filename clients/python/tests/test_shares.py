@@ -16,7 +16,7 @@ import pytest
 pytest.importorskip("lxml")
 
 from ftq_ask.shares import LeftOut, Shares, divided, local_shares  # noqa: E402
-from ftq_client import NameTaken, NoSuchDocument, NoSuchList, NoSuchName, QueryFault, Session  # noqa: E402
+from ftq_client import BadLine, NameTaken, NoSuchDocument, NoSuchList, NoSuchName, QueryFault, Session  # noqa: E402
 
 
 def test_documents_are_divided_in_order_and_by_size() -> None:
@@ -29,7 +29,7 @@ def test_documents_are_divided_in_order_and_by_size() -> None:
 
 
 def filled(shares: Shares, count: int) -> Shares:
-    rows = [(number * shares.count // count, f"d{number}", f"<a><b>word {number}</b></a>".encode()) for number in range(count)]
+    rows = [(number * shares.count // count, f"d{number}", f"<a><b>word. {number}</b></a>".encode()) for number in range(count)]
     faults: list[Exception | None] = []
     shares.load_all(rows, lambda name, fault: faults.append(fault))
     assert faults == [None] * count
@@ -62,6 +62,13 @@ def check(shares: Shares, one: Session) -> None:
         with pytest.raises(NameTaken):
             engine.load("d8", b"<a/>")
         engine.command("load d7", b"<a><b>word seven</b></a>")
+        engine.load("letter", b"<c>Dr. Hill ran</c>")
+        engine.command("abbreviations", b"e.g.")
+        engine.abbreviations(b"dr.")
+        assert len(engine.query('collection()/c[. contains text "dr" ftand "hill" same sentence]')) == 1
+        with pytest.raises(BadLine) as bad:
+            engine.command("abbreviations", b"e.g.\ne. g.")
+        assert bad.value.line == 2
     with pytest.raises(ValueError):
         shares.command("delete collection()//b")
     assert [it.line for it in shares.query("collection()//b")] == [it.line for it in one.query("collection()//b")]
@@ -70,7 +77,7 @@ def check(shares: Shares, one: Session) -> None:
 def one_session(program: Path, count: int) -> Session:
     session = Session(program)
     for number in range(count):
-        session.load(f"d{number}", f"<a><b>word {number}</b></a>".encode())
+        session.load(f"d{number}", f"<a><b>word. {number}</b></a>".encode())
     return session
 
 
@@ -183,18 +190,19 @@ def name_of(cluster: Cluster, shares: Shares, share: int) -> str:
 
 def test_a_worker_that_is_killed_in_the_middle_costs_nothing_but_time(cluster: Cluster, program: Path) -> None:
     shares, one = scheduled(cluster, program), one_session(program, 20)
-    # In the middle of loading, with a list that was given before.
-    shares.stop("s", b"a")
-    one.stop("s", b"a")
-    rows = [(number * 2 // 20, f"d{number}", f"<a><b>word {number}</b></a>".encode()) for number in range(20)]
+    # In the middle of loading, with lists that were given before.
+    for engine in (shares, one):
+        engine.stop("s", b"a")
+        engine.abbreviations(b"word.")
+    rows = [(number * 2 // 20, f"d{number}", f"<a><b>word. {number}</b></a>".encode()) for number in range(20)]
     faults: list[Exception | None] = []
     shares.load_all(rows[:7] + rows[10:15], lambda name, fault: faults.append(fault))
     shares.load_all([], lambda name, fault: None)
     cluster.signal(name_of(cluster, shares, 0), signal.SIGKILL)
     shares.load_all(rows[7:10] + rows[15:], lambda name, fault: faults.append(fault))
     assert faults == [None] * 20 and shares.moves == 1
-    path = 'collection()/a[. contains text "a 7" using stop words at "s"]'
-    assert shares.query(path) == one.query(path) and len(one.query(path)) == 1
+    for path in ('collection()/a[. contains text "a 7" using stop words at "s"]', 'collection()/a[. contains text "word" ftand "7" same sentence]'):
+        assert shares.query(path) == one.query(path) and len(one.query(path)) == 1
     # In the middle of a question: the worker is stopped, asked, and killed before it could answer.
     cluster.start("third")
     shares.drop("d3")

@@ -10,7 +10,7 @@ from rich.cells import cell_len
 from rich.console import Console
 from rich.text import Text
 
-from ftq_client import LATEST_FORMAT, Element, QueryFault, Refusal
+from ftq_client import Element, QueryFault, Refusal, name_word
 
 from .collection import Collection
 from .locating import Located
@@ -144,15 +144,13 @@ def say_refusal(console: Console, path: str, refusal: Refusal, fault_of: Callabl
         say(console, Text(prefix + in_words(refusal), "red"))
 
 
-_NAME = "letters, digits, periods, low lines and hyphens" if LATEST_FORMAT == 1 else "characters, none of them a control character"
-
 _WORDS: dict[int, Callable[[Refusal], str]] = {
     1: lambda it: "this is no command of the language",
-    2: lambda it: f"a name has 1 to 64 {_NAME}",
+    2: lambda it: "a name has 1 to 64 characters, none of them a control character; it stands between quotes where one isn't a letter, a digit, ., _ or -",
     3: lambda it: f"there is one called {it.name}: drop it first (a mark by unmark), or take another name",
     4: lambda it: f"no document and no mark is called {it.name}",
     8: lambda it: f"there is no document {it.name}; files lists those that there are",
-    9: lambda it: f"there is no list {it.name}: load it with stop {it.name} or thesaurus {it.name}, or by --stop",
+    9: lambda it: f"there is no list {it.name}: load it with stop {name_word(it.name)} or thesaurus {name_word(it.name)}, or by --stop",
 }
 
 

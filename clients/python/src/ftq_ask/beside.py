@@ -18,6 +18,8 @@ import sys
 from pathlib import Path
 from typing import Any, BinaryIO, Iterator
 
+from .abbreviating import Abbreviations
+
 ADDRESS = "/beside"
 ENVIRONMENT = ("TERM", "COLORTERM", "NO_COLOR", "FORCE_COLOR", "COLUMNS", "LINES")
 """What of the environment says how a terminal is written to."""
@@ -35,7 +37,11 @@ def answered(arguments: list[str]) -> int | None:
     options = read_words(arguments)
     if options.scheduler or not options.query:
         return None
-    running = _running(folder / f"{key_of(options)}.json")
+    try:
+        running = _running(folder / f"{key_of(options)}.json")
+    except (OSError, ValueError):
+        # A list that can't be read is told where the call is answered anew.
+        return None
     return _asked(running, arguments, options) if running else None
 
 
@@ -61,7 +67,7 @@ def key_of(options: argparse.Namespace) -> str:
         [[os.path.realpath(it), "" if it.is_dir() else it.name] for it in options.paths],
         [*options.glob],
         [options.no_dtd, options.no_xinclude, options.no_catalog, options.drop_blanks, options.keep_blanks, blocks],
-        [options.stem, options.stop, max(1, options.workers or 1)],
+        [options.stem, options.stop, hashlib.blake2b(Abbreviations(options.abbreviations).lines).hexdigest(), max(1, options.workers or 1)],
         [os.environ.get("XML_CATALOG_FILES"), os.path.realpath(__file__)],
     ]
     return hashlib.blake2b(json.dumps(told).encode("utf-8"), digest_size=16).hexdigest()

@@ -5,6 +5,8 @@ from __future__ import annotations
 import argparse
 from pathlib import Path
 
+from .abbreviating import LANGUAGES
+
 FORMATS = ("text", "json", "csv", "paths")
 
 ASK = """Asks a folder of XML: loads its files, and answers the questions of --query, or those that are typed at a prompt.
@@ -36,6 +38,13 @@ def add_collection(it: argparse.ArgumentParser) -> None:
     add_arguments(it)
     it.add_argument("--stem", metavar="LANGUAGE", help="makes the stems of the collection's words, for using stemming")
     it.add_argument("--stop", metavar="LANGUAGE", action="append", default=[], help='loads a stop list, for using stop words at "LANGUAGE"')
+    it.add_argument(
+        "--abbreviations",
+        metavar="LANGUAGE|FILE",
+        action="append",
+        default=[],
+        help=f"words behind which a period ends no sentence: of a language ({', '.join(LANGUAGES)}) or one in each line of a file; may be given again",
+    )
     it.add_argument("--workers", type=number, metavar="N", help="divides the documents among N programs")
     it.add_argument("--no-cache", action="store_true", help="keeps nothing of what is read, and uses nothing that was kept")
     it.add_argument("--program", type=Path, metavar="FILE", help="the program that answers")

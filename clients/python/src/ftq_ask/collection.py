@@ -8,9 +8,10 @@ from typing import Any, Callable, Iterator
 
 from ftq_client import LATEST_FORMAT, BadLine, ClientError, DocumentFault, Element, Full, Names, QueryFault, Refusal, Reply, SessionFull, command_words
 
+from .abbreviating import Abbreviations
 from .choosing import PART, Choice
 from .engines import Loading
-from .lists import Stems, stop_words, usual_stem
+from .lists import NoList, Stems, stop_words, usual_stem
 from .locating import Locator, Source
 from .mistakes import Fault
 from .paths import DOCUMENTS, is_said, path_in, quoted, symbols, with_apostrophes
@@ -134,6 +135,13 @@ class Collection:
                 del lines[(error.line or 1) - 1]
         self.has_stems = True
 
+    def send_abbreviations(self, lists: Abbreviations) -> None:
+        """Gives abbreviations to the program; `NoList` where a line of theirs isn't one word. Before documents are loaded it costs the least."""
+        try:
+            self.engine.abbreviations(lists.lines)
+        except BadLine as bad:
+            raise NoList(f"{lists.place(bad.line or 1)}: a list of abbreviations has one word in each line") from bad
+
     def send_stop_list(self, language: str) -> None:
         """Gives the stop list of a language to the program, under the language's name."""
         self.engine.stop(language, stop_words(language))
@@ -159,12 +167,16 @@ class Collection:
         """A path as the program is asked for it: an apostrophe that is typed is looked for as it is printed too."""
         return path if self.as_typed else with_apostrophes(path)
 
+    def named(self, name: str) -> str:
+        """The name of a document that is named as it is, or as sessions of format 1 do."""
+        return name if name in self.sources else self._by_bare_names.get(name, name)
+
     def _of_file(self, path: str) -> str:
         """A path that names a document as sessions of format 1 do, with the name that it has; another path as it is."""
         front = DOCUMENTS.match(path) if self._by_bare_names and not self.as_typed else None
-        named = next((it.value for it in symbols(front[0]) if it.kind == "string"), "") if front else ""
-        name = self._by_bare_names.get(named) if named not in self.sources else None
-        return path if front is None or name is None else f"doc({quoted(name)}){path[front.end() :]}"
+        written = next((it.value for it in symbols(front[0]) if it.kind == "string"), "") if front else ""
+        name = self.named(written)
+        return path if front is None or name == written else f"doc({quoted(name)}){path[front.end() :]}"
 
     def _lines(self, front: str, path: str) -> list[str]:
         """The lines of the reply to a command. The stems of the words that its path asks for are sent before, where they are new. A path that

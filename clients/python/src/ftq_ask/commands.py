@@ -15,6 +15,7 @@ from rich.progress import BarColumn, MofNCompleteColumn, Progress, TextColumn, T
 from ftq_client import ClientError, Refusal, TimedOut, find_program
 
 from . import answers
+from .abbreviating import Abbreviations
 from .caching import Cache, cache_file
 from .calls import read_words
 from .choosing import Choice, rules_of
@@ -37,6 +38,7 @@ def main(arguments: list[str]) -> int:
     options = read_words(arguments)
     errors = Console(stderr=True)
     try:
+        abbreviations = Abbreviations(options.abbreviations)
         collection = Collection(_engine(options), Stems(options.stem) if options.stem else None, Choice(options.glob), rules_of(options))
         collection.as_typed = options.as_typed
     except (ClientError, NoList, OSError, ValueError) as error:
@@ -45,7 +47,7 @@ def main(arguments: list[str]) -> int:
     start = time.monotonic()
     collection.reader = reader_of(options)
     try:
-        load(collection, options, errors)
+        load(collection, options, abbreviations, errors)
         tell(collection, errors)
         if not options.query:
             answers.say(errors, loaded(collection, start))
@@ -79,8 +81,10 @@ def reader_of(options: argparse.Namespace) -> Reader:
     return Reader(rules_of(options), None if options.no_cache else Cache(cache_file()), 0 if options.scheduler else None)
 
 
-def load(collection: Collection, options: argparse.Namespace, errors: Console) -> None:
+def load(collection: Collection, options: argparse.Namespace, abbreviations: Abbreviations, errors: Console) -> None:
     """Loads the files, with a bar where there is a terminal, and the lists that go with them."""
+    if options.abbreviations:
+        collection.send_abbreviations(abbreviations)
     planned = collection.plan(options.paths)
     if errors.is_terminal:
         _load_with_bar(collection, planned, errors)

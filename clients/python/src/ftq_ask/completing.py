@@ -14,7 +14,7 @@ from .paths import missing_end
 ASKING = ["help", "quit", "more", "files", "names"]
 """The words of the prompt itself."""
 
-LANGUAGE = ["query", "print", "load", "drop", "stop", "stems", "thesaurus", "explain", "stats", "mark", "unmark", "insert", "replace", "delete"]
+LANGUAGE = ["query", "print", "load", "drop", "stop", "stems", "thesaurus", "abbreviations", "explain", "stats", "mark", "unmark", "insert", "replace", "delete"]
 """The first words of the language's commands."""
 
 OPTIONS = [

@@ -10,10 +10,10 @@ from __future__ import annotations
 import argparse
 import sys
 from pathlib import Path
-from typing import BinaryIO, Iterable
+from typing import BinaryIO
 
 from ftq_client import LATEST_FORMAT, Names, command_bytes, name_word
-from ftq_client.names import OPENINGS, is_bare
+from ftq_client.names import OPENINGS
 
 from .calls import add_arguments
 from .choosing import Choice, rules_of
@@ -59,29 +59,23 @@ class Packing:
         return found
 
 
-def _least_format(names: Iterable[str]) -> int:
-    """The first format of sessions in which documents may have these names."""
-    return 1 if all(map(is_bare, names)) else 2
-
-
 def main(arguments: list[str]) -> int:
     """The tool: 0, or 1 where something was left out or is too much."""
     parser = argparse.ArgumentParser(prog="pack", description=__doc__, formatter_class=argparse.RawDescriptionHelpFormatter)
     parser.add_argument("paths", nargs="+", type=Path, metavar="FILE|FOLDER")
     parser.add_argument(
-        "--session-format", type=int, choices=sorted(OPENINGS), metavar="1|2", help="writes a session of this format, whatever the names of its documents are"
+        "--session-format", type=int, choices=sorted(OPENINGS), default=LATEST_FORMAT, metavar="1|2", help=f"writes a session of this format, {LATEST_FORMAT} otherwise"
     )
     parser.add_argument("--query", action="append", default=[], metavar="PATH", help="adds a query after the documents; may be given again")
     add_arguments(parser)
     options = parser.parse_args(arguments)
-    choice, names, status = Choice(options.glob), Names(options.session_format or LATEST_FORMAT), 0
-    files = [("" if isinstance(path, Untaken) else names.name_for(shown), path) for shown, path in choice.files_of(options.paths)]
-    packing = Packing(sys.stdout.buffer, options.session_format or _least_format(name for name, _ in files if name))
-    for name, path in files:
+    choice, names, status = Choice(options.glob), Names(options.session_format), 0
+    packing = Packing(sys.stdout.buffer, options.session_format)
+    for shown, path in choice.files_of(options.paths):
         try:
             if isinstance(path, Untaken):
                 raise path
-            packing.document(name, read_file(path, rules_of(options)))
+            packing.document(names.name_for(shown), read_file(path, rules_of(options)))
         except Untaken as untaken:
             print(f"pack: {untaken}", file=sys.stderr)
             status = 1

@@ -57,7 +57,7 @@ def path_in(line: str) -> str:
     """The path or the selection of a command, from whose first character the place of a fault is counted."""
     words = re.findall(r"[^ \t]+", line)
     before = 3 if words[:2] == ["query", "at"] else 2 if words[:1] == ["insert"] else 1
-    told = re.match(rf"[ \t]*(?:[^ \t]+[ \t]+){{{before}}}(.*)", line, re.DOTALL)
+    told = re.match(rf"[ \t]*(?:(?:\"(?:[^\"]|\"\")*\"|[^ \t]+)[ \t]+){{{before}}}(.*)", line, re.DOTALL)
     return told[1] if told else ""
 
 

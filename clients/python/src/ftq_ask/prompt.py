@@ -14,7 +14,7 @@ from prompt_toolkit.key_binding import KeyBindings, KeyPressEvent
 from rich.console import Console
 from rich.text import Text
 
-from ftq_client import ClientError, Element, ProgramEnded, Refusal, Said, TimedOut
+from ftq_client import LATEST_FORMAT, ClientError, Element, ProgramEnded, Refusal, Said, TimedOut
 from ftq_client.blocks import BLOCK_WORDS
 
 from . import answers
@@ -38,7 +38,8 @@ A question is a path; query may stand before it:
 more                    the next elements of the last answer
 files                   the documents with their files
 names                   the names of elements and attributes, and in how many documents they are
-load NAME, stop NAME, stems, thesaurus NAME            lines follow, up to one that is a single period
+load NAME, stop NAME, stems, thesaurus NAME, abbreviations
+                        lines follow, up to one that is a single period
 drop NAME               takes a document out
 quit                    ends (also Ctrl-D)
 
@@ -48,7 +49,7 @@ Open brackets and strings go on in the next line; an empty line ends them. Tab c
 def is_whole(text: str) -> bool:
     """Whether what was typed is a whole command: no bracket, string or block is open, or an empty line ends it all the same."""
     lines = text.split("\n")
-    if first_word(text) in BLOCK_WORDS:
+    if first_word(text) in BLOCK_WORDS[LATEST_FORMAT]:
         return lines[-1].strip() == "."
     return not missing_end(text) or (len(lines) > 1 and not lines[-1].strip())
 
@@ -78,7 +79,7 @@ class Conversation:
             return False
         if text in ASKING or word == "help":
             {"help": self._help, "more": self._more, "files": self._files, "names": self._names}[word]()
-        elif word in BLOCK_WORDS:
+        elif word in BLOCK_WORDS[LATEST_FORMAT]:
             self._block(text)
         elif word == "print":
             self._printed(_one_line(rest))

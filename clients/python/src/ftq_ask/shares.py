@@ -184,6 +184,10 @@ class Shares:
         """Gives a thesaurus to all shares."""
         self._give("thesaurus", name, name, lines)
 
+    def abbreviations(self, lines: bytes) -> None:
+        """Gives the abbreviations to all shares."""
+        self._give("abbreviations", "", lines)
+
     def query(self, path: str) -> list[Element]:
         """The elements that the path selects, those of the first share first."""
         return self._joined(path, lambda it: it.query(path))
@@ -204,8 +208,8 @@ class Shares:
             by_name[kind](names[0], block)
         elif kind == "drop" and len(names) == 1:
             self.drop(names[0])
-        elif kind == "stems" and not names and block is not None:
-            self.stems(block)
+        elif kind in ("stems", "abbreviations") and not names and block is not None:
+            self._give(kind, "", block)
         else:
             raise ValueError(f"{kind or 'an empty line'} is not divided among several programs")
         return Done()

@@ -60,6 +60,10 @@ class AsyncSession:
         """As `Session.thesaurus`."""
         await self._in_turn(lambda: self.session.thesaurus(name, lines))
 
+    async def abbreviations(self, lines: Content) -> None:
+        """As `Session.abbreviations`."""
+        await self._in_turn(lambda: self.session.abbreviations(lines))
+
     async def query(self, path: str) -> list[Element]:
         """As `Session.query`."""
         return await self._in_turn(lambda: self.session.query(path))

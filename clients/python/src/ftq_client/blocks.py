@@ -6,8 +6,10 @@ from typing import Union
 
 from .names import LATEST_FORMAT
 
-BLOCK_WORDS = frozenset({"load", "insert", "replace", "stop", "stems", "thesaurus"})
-"""The first words of the lines that a block follows."""
+_BLOCK_WORDS = frozenset({"load", "insert", "replace", "stop", "stems", "thesaurus"})
+
+BLOCK_WORDS = {1: _BLOCK_WORDS, 2: _BLOCK_WORDS | {"abbreviations"}}
+"""The first words of the lines that a block follows, in sessions of each format."""
 
 MOST_LINE_BYTES = 65_536
 MOST_BLOCK_BYTES = 67_108_864
@@ -40,10 +42,11 @@ def command_bytes(line: str, block: Content | None = None, session_format: int =
     if not words or words.startswith("#"):
         raise ValueError("an empty line and a comment are no commands")
     first = words.replace("\t", " ").split(" ", 1)[0]
-    if first in BLOCK_WORDS and block is None:
+    takes_block = first in BLOCK_WORDS[session_format]
+    if takes_block and block is None:
         raise ValueError(f"{first} wants a block")
-    if first not in BLOCK_WORDS and block is not None:
-        raise ValueError(f"{first} takes no block")
+    if not takes_block and block is not None:
+        raise ValueError(f"{first} takes no block in a session of format {session_format}")
     head = line.removeprefix("\ufeff").encode("utf-8") + b"\n"
     if block is None:
         return head

@@ -47,7 +47,7 @@ class History:
         if self._plain and kind == "drop":
             self._forget("load", name)
             return
-        if self._plain and kind in ("stop", "thesaurus", "stems"):
+        if self._plain and kind in ("stop", "thesaurus", "stems", "abbreviations"):
             self._forget(kind, name)
         self._plain = self._plain and kind not in LOOKS_BACK
         self._kept.append(Kept(kind, name, command))

@@ -5,9 +5,8 @@ from __future__ import annotations
 import re
 from pathlib import PurePath
 
-LATEST_FORMAT = 1
-"""The latest format of sessions that the program reads, in which sessions are written where nothing else is said. With 2 here names may be any
-texts, and the tools name documents by the paths of their files."""
+LATEST_FORMAT = 2
+"""The latest format of sessions that the program reads, in which sessions are written where nothing else is said."""
 
 OPENINGS = {1: b"", 2: b"session 2\n"}
 """The line that begins a session of each format, without a reply."""

@@ -38,6 +38,8 @@ class Engine(Protocol):
 
     def thesaurus(self, name: str, lines: Content) -> None: ...
 
+    def abbreviations(self, lines: Content) -> None: ...
+
     def query(self, path: str) -> list[Element]: ...
 
     def print(self, path: str) -> list[str]: ...
@@ -52,8 +54,8 @@ class Session:
     with the same documents, lists and edits; so documents and lists together may take 64 MiB less the longest command. An
     interrupt (Ctrl-C) while an answer is awaited ends the process, and the next command starts a new one likewise.
 
-    Where `limit` is less than 64 MiB the session moves on earlier. In a session of format 2 (docs/SESSIONS.md) names of documents, lists and marks are
-    any texts of 1 to 64 characters without control characters, and blocks are sent as they are.
+    Where `limit` is less than 64 MiB the session moves on earlier. Names of documents, lists and marks are any texts of 1 to 64 characters without
+    control characters; in a session of format 1 (docs/SESSIONS.md), which `session_format=1` asks for, they are letters, digits, `.`, `_` and `-`.
     """
 
     def __init__(
@@ -114,6 +116,11 @@ class Session:
         """Reads `lines`, each `RELATION | PHRASE | PHRASE`, as a thesaurus, in the place of the one of that name."""
         self._said(self.command(f"thesaurus {self._word(name)}", lines), Done)
 
+    def abbreviations(self, lines: Content) -> None:
+        """Reads `lines`, a word in each, as the abbreviations behind which a period ends no sentence, in the place of those before; with none each
+        period ends one again. A `ValueError` in a session of format 1, which has no such command."""
+        self._said(self.command("abbreviations", lines), Done)
+
     def query(self, path: str) -> list[Element]:
         """The elements that the path selects, documents in order of loading, elements of one document in its order."""
         found = self._said(self.command(f"query {path}"), Found)
@@ -154,7 +161,7 @@ class Session:
         self._said(self.command(f"unmark {self._word(name)}"), Done)
 
     def query_at(self, mark: str, path: str) -> list[Element]:
-        """The elements that the path selects in the collection as the mark has it; lists are those of now."""
+        """The elements that the path selects in the collection as the mark has it, with the abbreviations of its moment; lists are those of now."""
         found = self._said(self.command(f"query at {self._word(mark)} {path}"), Found)
         return [Element.read(line) for line in found.lines]
 
@@ -167,7 +174,8 @@ class Session:
         return self._said(self.command(f"explain {selection}"), Said).text
 
     def command(self, line: str, block: Content | None = None) -> Reply:
-        """The reply to any command of the program's; its block's bytes are given as they are, and quoted here.
+        """The reply to any command of the program's. Its block's bytes are given as they are; their length is put in here, or in format 1 they are
+        quoted. A name in the line that isn't a bare one stands between quotes there.
 
         Raises a `Refusal` where the program refuses it, `SessionFull` where it is too long to be sent, `ProgramEnded` where the
         program ends, `TimedOut` where it takes too long, `SessionClosed` behind `close`, and a `ValueError` where the line is none that the

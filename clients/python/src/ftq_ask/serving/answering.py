@@ -105,6 +105,7 @@ Part = Union[Counted, Hit, Refused, Over, Ended]
 def answer(desk: Desk, question: Question, wish: Wish) -> Iterator[Part]:
     """The parts of an answer, each as soon as it is worked out: the counts, the elements, and what ends it."""
     view = desk.view(question, wish.as_typed)
+    wish = replace(wish, document=view.named(wish.document))
     try:
         found = desk.found(view, wish.path)
         yield counted(view, found, wish)

@@ -107,6 +107,7 @@ async def in_turn(desk: Desk, question: Question, parts: Iterator[Something]) ->
 def shown(desk: Desk, question: Question, wish: Wish, name: str, hit: int, sheet: int) -> Iterator[Shown | Unshown | Refused | Over]:
     """A document with what a question found in it."""
     view = desk.view(question, wish.as_typed)
+    name = view.named(name)
     try:
         document = view.locator.document(name)
         if isinstance(document, str):

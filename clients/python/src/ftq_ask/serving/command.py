@@ -22,6 +22,7 @@ from rich.console import Console
 from ftq_client import ClientError, find_program
 
 from .. import answers
+from ..abbreviating import Abbreviations
 from ..beside import ADDRESS, forget, key_of, note
 from ..calls import add_collection, number, seconds
 from ..choosing import Choice, rules_of
@@ -74,13 +75,14 @@ def serve(arguments: list[str]) -> int:
         return FAULT
     collection = None
     try:
+        abbreviations = Abbreviations(options.abbreviations)
         stems = Stems(options.stem) if options.stem else None
         program = options.program or find_program()
         collection = Collection(engine_of(program, options.workers), stems, Choice(options.glob), rules_of(options))
         collection.reader = reader_of(options)
         files = Files([str(it) for it in options.paths])
         looked = files.look(time.time_ns(), set())
-        load(collection, options, errors)
+        load(collection, options, abbreviations, errors)
         collection.reader.stay_alone()
         tell(collection, errors)
         answers.say(errors, loaded(collection, start))

@@ -151,7 +151,7 @@ class Desk:
         """From now on questions are asked of the collection as this one tells of it."""
         with self._lock:
             old = self.collection
-            for name in ("choice", "_names", "untaken", "known", "sources", "vocabulary", "bytes"):
+            for name in ("choice", "_names", "_by_bare_names", "untaken", "known", "sources", "vocabulary", "bytes"):
                 setattr(old, name, getattr(new, name))
             old.spellings = old.spellings.again()
             old.edition += 1
