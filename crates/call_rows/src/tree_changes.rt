@@ -8,12 +8,11 @@ ghost use Rattle.plain_tree.specs.View.{node};
 
 use doc_profile::{print_doc, read_doc, read_fragment};
 use ft_base::{Line, MAX_NODES, Memory};
-use ordered_tree::{DocTree, NodeRef, NodeRefs};
+use ordered_tree::{DocTree, NodeRef, NodeRefs, Read, load_doc};
 use plain_tree::{How, Kids, Place, PlaceFault, PlainDoc};
 use std::alloc::Global;
 use std::process::Abort;
 use std::test::Fail;
-use tokenizer::tokens_of;
 use tree_edits::{TreeFault, insert, remove, replace};
 use word_lists::KeySet;
 
@@ -57,16 +56,20 @@ fn content_of(alloc: Global, text: &str) -> Result<Kids, Fail>
     }
 }
 
-/// The tree in slots of a document that has few words.
+/// The tree in slots of a document.
 fn tree_of(alloc: Global, doc: &PlainDoc) -> Result<DocTree, Fail>
     requires { node_count doc.now ≤ max_nodes }
     ensures { IfOk result (λ tree. node_count (plain tree.root) ≤ max_nodes) }
 {
-    let Ok(tokens) = tokens_of(alloc, doc, &KeySet::empty(alloc)) else {
+    let Ok(read) = load_doc(alloc, doc.copy(alloc)?, &KeySet::empty(alloc)) else {
         return Err(Fail::from("too many tokens"));
     };
-    drop(tokens);
-    let tree = DocTree::from_doc(alloc, doc)?;
+    let Read {
+        tree,
+        leaves,
+        breaks,
+    } = read;
+    drop((leaves, breaks));
     if tree.node_count() > MAX_NODES {
         drop(tree);
         return Err(Fail::from("too many nodes"));

@@ -5,13 +5,12 @@ ghost use Rattle.ordered_tree.specs.Stands.{references};
 
 use doc_profile::{print_doc, print_tree, read_doc};
 use ft_base::Span;
-use ordered_tree::{DocTree, LeafId, LeafWords, NodeRef};
+use ordered_tree::{DocTree, LeafId, LeafWords, NodeRef, load_doc};
 use plain_tree::{PlainDoc, Tree};
 use std::alloc::Global;
 use std::process::Abort;
 use std::test::Fail;
 use text_list::TextList;
-use tokenizer::tokens_of;
 use word_lists::KeySet;
 
 /// Compares the root's name, and how many attributes and children it has.
@@ -57,10 +56,10 @@ fn tree_of(alloc: Global, text: &str) -> Result<DocTree, Fail> {
     let Ok(doc) = read_doc(alloc, text.as_bytes()) else {
         return Err(Fail::from("no document"));
     };
-    let Ok(_tokens) = tokens_of(alloc, &doc, &KeySet::empty(alloc)) else {
+    let Ok(read) = load_doc(alloc, doc, &KeySet::empty(alloc)) else {
         return Err(Fail::from("too many tokens"));
     };
-    Ok(DocTree::from_doc(alloc, &doc)?)
+    Ok(read.tree)
 }
 
 /// A node: its number; the name of an element; its parent, its first child and the sibling after it; the positions of its words;

@@ -6,13 +6,12 @@ ghost use Rattle.path_nodes.specs.References.{IsElement};
 use crate::elements::{LETTERS, NESTED};
 use doc_profile::read_doc;
 use ft_base::Memory;
-use ordered_tree::{DocTree, NodeRef};
+use ordered_tree::{DocTree, NodeRef, load_doc};
 use path_nodes::{TextTest, nodes};
 use path_subset::read_path;
 use std::alloc::Global;
 use std::process::Abort;
 use std::test::Fail;
-use tokenizer::tokens_of;
 use word_lists::KeySet;
 
 /// A test of the nodes of a document that is true of those of these numbers, except for the selections that no node satisfies, for which
@@ -62,10 +61,10 @@ pub(crate) fn tree_of(alloc: Global, text: &str) -> Result<DocTree, Fail>
         return Err(Fail::from("no document"));
     };
     let _root = doc.root();
-    let Ok(_tokens) = tokens_of(alloc, &doc, &KeySet::empty(alloc)) else {
+    let Ok(read) = load_doc(alloc, doc, &KeySet::empty(alloc)) else {
         return Err(Fail::from("too many tokens"));
     };
-    Ok(DocTree::from_doc(alloc, &doc)?)
+    Ok(read.tree)
 }
 
 /// The elements of the test's document to which the steps of a path lead, whatever it begins with.
