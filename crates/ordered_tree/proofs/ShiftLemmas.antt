@@ -1,17 +1,16 @@
 -- The shift law: the tokens at the places of a node's span, counted from 1 again, are the node's own.
-use Rattle.std.proofs.Common.{◌≡◌, ℕ, suc, ◌+◌, ◌-◌, ◌<◌, ◌≤◌, Bool, true, false, List, [], ◌∷◌, ◌++◌, map, filter, take, drop, length, refl, sym, ap, ap₂, ◌∙◌, arith, inl, inr, append_assoc, append-nil}
+use Rattle.std.proofs.Common.{◌≡◌, ℕ, ◌+◌, ◌-◌, ◌<◌, ◌≤◌, Bool, true, false, List, [], ◌∷◌, ◌++◌, map, take, drop, length, refl, sym, ap, ap₂, ◌∙◌, arith, inl, inr, append_assoc, append-nil}
 use Rattle.std.specs.List.{All}
-use Rattle.std.proofs.lemmas.Bool.{cases_Bool, cases_lt}
+use Rattle.std.proofs.lemmas.Bool.{cases_lt}
 use Rattle.std.proofs.lemmas.List.{length-append}
 use Rattle.std.proofs.lemmas.List.Concat.{flat_map-append}
 use Rattle.std.proofs.lemmas.List.Elements.{All-nil, All-cons, All-append, All-weaker}
 use Rattle.ft_base.specs.declared.token.Token.{Token}
 use Rattle.plain_tree.specs.Document.{Node, element, text, Nodes, no_nodes, node_then}
 use Rattle.tokenizer.specs.Gaps.{gap, ends_sentence, ends_paragraph}
-use Rattle.tokenizer.specs.Parts.{Part, word, gap_characters, gap_tag, events, events_of, parts, parts_of_event, parts_behind, is_abbreviation}
+use Rattle.tokenizer.specs.Parts.{Part, word, gap_characters, gap_tag, events, events_of, parts, parts_of_event}
 use Rattle.tokenizer.specs.Tokens.{shifted, tokens_from, tokens, words_in, words_in_all}
-use Rattle.text_words.specs.Words.{is_word}
-use Rattle.unicode_segmentation.specs.Word.{word_bounds}
+use Rattle.tokenizer.proofs.PartsLemmas.{words_among, words_among-append, words_among-parts}
 use Rattle.ordered_tree.specs.Counts.{word_count, word_counts}
 use Rattle.ordered_tree.specs.Numbered.{Numbered, element_at, text_at, Children, no_children, child_then, plain, plain_children, first_of}
 use Rattle.ordered_tree.specs.Part.{counted_from, renumbered, part}
@@ -22,23 +21,10 @@ use Rattle.ordered_tree.specs.steps.Gathering.{parts_of}
 -- ---- the words among parts
 
 abbrev pub word_parts : List Part → ℕ
-word_parts [] = 0
-word_parts (word bytes ∷ rest) = suc (word_parts rest)
-word_parts (gap_characters bytes ∷ rest) = word_parts rest
-word_parts (gap_tag name ∷ rest) = word_parts rest
+word_parts xs = length (words_among xs)
 
 pub word_parts-append : (xs ys : List Part) → word_parts (xs ++ ys) ≡ word_parts xs + word_parts ys
-word_parts-append [] ys = omega arith
-word_parts-append (word bytes ∷ xs) ys = omega (arith, word_parts-append xs ys)
-word_parts-append (gap_characters bytes ∷ xs) ys = word_parts-append xs ys
-word_parts-append (gap_tag name ∷ xs) ys = word_parts-append xs ys
-
-pub length-tokens_from : (xs : List Part) (s p : ℕ) → length (tokens_from s p xs) ≡ word_parts xs
-unfolding tokens_from
-length-tokens_from [] s p = refl
-length-tokens_from (word bytes ∷ xs) s p = ap suc (length-tokens_from xs _ _)
-length-tokens_from (gap_characters bytes ∷ xs) s p = length-tokens_from xs s p
-length-tokens_from (gap_tag name ∷ xs) s p = length-tokens_from xs s p
+word_parts-append xs ys = ap length (words_among-append xs ys) ∙ length-append (words_among xs) (words_among ys)
 
 tokens_from-none : (s p : ℕ) (xs : List Part) → word_parts xs ≤ 0 → tokens_from s p xs ≡ []
 unfolding tokens_from
@@ -131,40 +117,6 @@ pub parts_of-then : (abbreviations : List (List ℕ)) (n : Node) (ns : Nodes) �
 unfolding events_of
 parts_of-then abbreviations n ns = flat_map-append (parts_of_event abbreviations) (events n) (events_of ns)
 
-word_parts-behind : (abbreviations : List (List ℕ)) (spares : Bool) (ss : List (List ℕ)) → word_parts (parts_behind abbreviations spares ss) ≡ length (filter is_word ss)
-unfolding parts_behind
-word_parts-behind abbreviations spares [] = refl
-word_parts-behind abbreviations spares (s ∷ ss) =
-    elim (cases_Bool (is_word s)) [
-      | inl is ↦ rw is (ap suc (word_parts-behind abbreviations (is_abbreviation abbreviations s) ss))
-      | inr other ↦ rw other (word_parts-behind abbreviations false ss)
-    ]
-
-word_parts-text : (abbreviations : List (List ℕ)) (bytes : List ℕ) → word_parts (parts abbreviations (text bytes)) ≡ word_count (text bytes)
-unfolding events
-word_parts-text abbreviations bytes = ap word_parts (append-nil (parts_behind abbreviations false (word_bounds bytes))) ∙ word_parts-behind abbreviations false (word_bounds bytes)
-
-word_parts-no_nodes : (abbreviations : List (List ℕ)) → word_parts (parts_of abbreviations no_nodes) ≡ 0
-unfolding events_of
-word_parts-no_nodes abbreviations = refl
-
-mutual
-  pub word_parts-parts : (abbreviations : List (List ℕ)) (n : Node) → word_parts (parts abbreviations n) ≡ word_count n
-  word_parts-parts abbreviations (element name attrs kids) =
-      ap word_parts (parts-element abbreviations name attrs kids) ∙ word_parts-append (parts_of abbreviations kids) (gap_tag name ∷ [])
-      ∙ (let e = word_parts-parts_of abbreviations kids in omega arith)
-  word_parts-parts abbreviations (text bytes) = word_parts-text abbreviations bytes
-
-  word_parts-parts_of : (abbreviations : List (List ℕ)) (ns : Nodes) → word_parts (parts_of abbreviations ns) ≡ word_counts ns
-  word_parts-parts_of abbreviations no_nodes = word_parts-no_nodes abbreviations
-  word_parts-parts_of abbreviations (node_then n ns) =
-      ap word_parts (parts_of-then abbreviations n ns) ∙ word_parts-append (parts abbreviations n) (parts_of abbreviations ns)
-      ∙ ap₂ (λ a b. a + b) (word_parts-parts abbreviations n) (word_parts-parts_of abbreviations ns)
-
-pub length-tokens : (abbreviations : List (List ℕ)) (n : Node) → length (tokens abbreviations n) ≡ word_count n
-unfolding tokens
-length-tokens abbreviations n = length-tokens_from (parts abbreviations n) 1 1 ∙ word_parts-parts abbreviations n
-
 mutual
   pub length-words_in : (n : Node) → length (words_in n) ≡ word_count n
   length-words_in (element name attrs kids) = length-words_in_all kids
@@ -173,6 +125,9 @@ mutual
   length-words_in_all : (ns : Nodes) → length (words_in_all ns) ≡ word_counts ns
   length-words_in_all no_nodes = refl
   length-words_in_all (node_then n ns) = length-append (words_in n) (words_in_all ns) ∙ ap₂ (λ a b. a + b) (length-words_in n) (length-words_in_all ns)
+
+pub word_parts-parts : (abbreviations : List (List ℕ)) (n : Node) → word_parts (parts abbreviations n) ≡ word_count n
+word_parts-parts abbreviations n = ap length (words_among-parts abbreviations n) ∙ length-words_in n
 
 -- ---- where the parts of a node stand
 

@@ -16,17 +16,20 @@ use crate::slot::Held;
 use crate::slots::{SlotAt, Slots};
 use crate::{DocTree, NodeRef};
 use ft_base::{Breaks, Memory};
+use std::alloc::Global;
 use tokenizer::Starts;
 use word_lists::KeySet;
 
 impl DocTree {
-    /// The places, counted from 1, of the tokens at which sentences and paragraphs start under a set of abbreviations. No text is read.
+    /// The places, counted from 1, of the tokens at which sentences and paragraphs start under a set of abbreviations. No text is read but the words
+    /// before periods, and none of these where there are no abbreviations.
     pub fn breaks(&self, abbreviations: &KeySet) -> Result<Breaks, Memory>
         ensures sentences { IfOk result (λ breaks. breaks.sentences ≡ sentence_starts (tokens abbreviations.now (plain self.now.root))) }
         ensures paragraphs { IfOk result (λ breaks. breaks.paragraphs ≡ paragraph_starts (tokens abbreviations.now (plain self.now.root))) }
     {
         let mut starts = Starts::new(self.alloc);
         pass_node(
+            self.alloc,
             &self.slots,
             abbreviations,
             NodeRef(0),
@@ -40,6 +43,7 @@ impl DocTree {
 /// Goes past a node, whose slot was read, and all below it.
 #[cycle(breaks)]
 fn pass_node(
+    alloc: Global,
     slots: &Slots,
     abbreviations: &KeySet,
     here: NodeRef,
@@ -53,10 +57,10 @@ fn pass_node(
     ensures few { words_seen starts.new < 2 ^ 31 }
 {
     match slot.held {
-        Held::Text { text } => pass_text(text, abbreviations, starts),
+        Held::Text { text } => pass_text(alloc, text, abbreviations, starts),
         Held::Element { name, .. } => {
             starts.pass_tag(name.as_str());
-            pass_nodes(slots, abbreviations, slot.first_child, starts)?;
+            pass_nodes(alloc, slots, abbreviations, slot.first_child, starts)?;
             starts.pass_tag(name.as_str());
             Ok(())
         }
@@ -68,6 +72,7 @@ fn pass_node(
 /// Goes past the nodes from a link on, and all below them.
 #[cycle(breaks)]
 fn pass_nodes(
+    alloc: Global,
     slots: &Slots,
     abbreviations: &KeySet,
     first: Option<NodeRef>,
@@ -81,7 +86,7 @@ fn pass_nodes(
     let mut link = first;
     while let Some(here) = link {
         let slot = slots.get(here.0 as usize);
-        pass_node(slots, abbreviations, here, slot, starts)?;
+        pass_node(alloc, slots, abbreviations, here, slot, starts)?;
         link = slot.around.next;
     }
     Ok(())
@@ -89,6 +94,7 @@ fn pass_nodes(
 
 /// Goes past a text.
 fn pass_text(
+    alloc: Global,
     content: &SharedText,
     abbreviations: &KeySet,
     starts: &mut Starts,
@@ -97,7 +103,13 @@ fn pass_text(
     ensures passed { OnOk result (Passes starts.old (parts abbreviations.now (text content.now)) starts.new) }
     ensures few { words_seen starts.new < 2 ^ 31 }
 {
-    match starts.pass_known(content.starts(), abbreviations, 2_147_483_647) {
+    match starts.pass_known(
+        alloc,
+        content.as_str(),
+        content.starts(),
+        abbreviations,
+        2_147_483_647,
+    ) {
         Ok(()) => Ok(()),
         // No document has more words.
         Err(_) => Err(Memory),

@@ -140,19 +140,20 @@ module _ (parts left : List Part) (bytes : List ℕ) (old : Known) (leads : Lead
 
 -- ---- past a text that is known
 
-module _ (abbreviations : List (List ℕ)) (old new : Starts) (known : TextStarts) (words : new.words ≡ old.words + words_known known) (last : new.last ≡ after_known (known_under abbreviations known) old.last) where
-  pub sentences_in-known : new.breaks.sentences ≡ old.breaks.sentences ++ sentences_known (known_under abbreviations known) old.last old.words → (text : List ℕ) (rest : List Part) → Tells known text
+module _ (abbreviations : List (List ℕ)) (text : List ℕ) (old new : Starts) (known : TextStarts) (tells : Tells known text) (words : new.words ≡ old.words + words_known known)
+    (last : new.last ≡ after_known (known_under abbreviations text known) old.last) where
+  pub sentences_in-known : new.breaks.sentences ≡ old.breaks.sentences ++ sentences_known (known_under abbreviations text known) old.last old.words → (rest : List Part)
       → sentences_in old (parts_of_text abbreviations text ++ rest) ≡ sentences_in new rest
   unfolding sentences_in
-  sentences_in-known places text rest tells =
+  sentences_in-known places rest =
       rw (places, last, words)
       (ap (λ l. old.breaks.sentences ++ l) ((tells.leads abbreviations).sentences old.last old.words rest)
-      ∙ sym (append_assoc old.breaks.sentences (sentences_known (known_under abbreviations known) old.last old.words) _))
+      ∙ sym (append_assoc old.breaks.sentences (sentences_known (known_under abbreviations text known) old.last old.words) _))
 
-  pub paragraphs_in-known : new.breaks.paragraphs ≡ old.breaks.paragraphs ++ paragraphs_known (known_under abbreviations known) old.last old.words → (text : List ℕ) (rest : List Part) → Tells known text
+  pub paragraphs_in-known : new.breaks.paragraphs ≡ old.breaks.paragraphs ++ paragraphs_known (known_under abbreviations text known) old.last old.words → (rest : List Part)
       → paragraphs_in old (parts_of_text abbreviations text ++ rest) ≡ paragraphs_in new rest
   unfolding paragraphs_in
-  paragraphs_in-known places text rest tells =
+  paragraphs_in-known places rest =
       rw (places, last, words)
       (ap (λ l. old.breaks.paragraphs ++ l) ((tells.leads abbreviations).paragraphs old.last old.words rest)
-      ∙ sym (append_assoc old.breaks.paragraphs (paragraphs_known (known_under abbreviations known) old.last old.words) _))
+      ∙ sym (append_assoc old.breaks.paragraphs (paragraphs_known (known_under abbreviations text known) old.last old.words) _))

@@ -7,5 +7,6 @@ pub mod PartsLemmas
 pub mod PeriodsLemmas
 pub mod PushLemmas
 pub mod ReadsLemmas
+pub mod SegmentsLemmas
 pub mod StartsLemmas
 pub mod WalksLemmas

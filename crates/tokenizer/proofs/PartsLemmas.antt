@@ -1,49 +1,29 @@
 -- The parts of a text, one segment further, and the words that are among parts.
 use Rattle.std.proofs.Common.{◌≡◌, ℕ, Bool, true, false, List, [], ◌∷◌, ◌++◌, map, flat_map, filter, length, refl, sym, ap, ap₂, ◌∙◌, append-nil, inl, inr}
-use Rattle.std.proofs.lemmas.Bool.{cases_Bool, cond-false, cond-true}
+use Rattle.std.proofs.lemmas.Bool.{cases_Bool}
 use Rattle.std.proofs.lemmas.Grind.{flat_map-append}
 use Rattle.std.proofs.lemmas.List.{length-map}
 use Rattle.plain_tree.specs.Document.{Node, element, text, Nodes, no_nodes, node_then}
 use Rattle.unicode_segmentation.specs.Word.{word_bounds}
-use Rattle.text_words.specs.Words.{is_word}
+use Rattle.text_words.specs.Words.{is_word, words}
 use Rattle.tokenizer.specs.Gaps.{gap, ends_paragraph, ends_sentence}
-use Rattle.tokenizer.specs.Parts.{Event, Part, word, gap_characters, gap_tag, events, events_of, is_abbreviation, parts, parts_behind, parts_of_event, without_period}
+use Rattle.tokenizer.specs.Parts.{Event, Part, word, gap_characters, gap_tag, events, events_of, is_abbreviation, parts, parts_behind, parts_of_event, parts_of_text, without_period}
 use Rattle.tokenizer.specs.Tokens.{shifted, tokens, tokens_from, words_in, words_in_all}
 
 -- ---- one segment further
 
 module _ (abbreviations : List (List ℕ)) (spares : Bool) (segment : List ℕ) (rest : List (List ℕ)) where
-  parts_behind-word : is_word segment ≡ true → parts_behind abbreviations spares (segment ∷ rest) ≡ word segment ∷ parts_behind abbreviations (is_abbreviation abbreviations segment) rest
+  pub parts_behind-word : is_word segment ≡ true → parts_behind abbreviations spares (segment ∷ rest) ≡ word segment ∷ parts_behind abbreviations (is_abbreviation abbreviations segment) rest
   unfolding parts_behind
   parts_behind-word holds = rw holds refl
 
-  parts_behind-characters : is_word segment ≡ false → parts_behind abbreviations spares (segment ∷ rest) ≡ gap_characters (without_period spares segment) ∷ parts_behind abbreviations false rest
+  pub parts_behind-characters : is_word segment ≡ false → parts_behind abbreviations spares (segment ∷ rest) ≡ gap_characters (without_period spares segment) ∷ parts_behind abbreviations false rest
   unfolding parts_behind
   parts_behind-characters fails = rw fails refl
 
-parts_behind-nil : (abbreviations : List (List ℕ)) (spares : Bool) → parts_behind abbreviations spares [] ≡ []
+pub parts_behind-nil : (abbreviations : List (List ℕ)) (spares : Bool) → parts_behind abbreviations spares [] ≡ []
 unfolding parts_behind
 parts_behind-nil abbreviations spares = refl
-
--- a loop over the segments
-module _ (abbreviations : List (List ℕ)) (spares : Bool) (segments : List (List ℕ)) where
-  pub next-word : (segment : List ℕ) (left : List (List ℕ)) → segments ≡ segment ∷ left → true ≡ is_word segment
-      → parts_behind abbreviations spares segments ≡ word segment ∷ parts_behind abbreviations (is_abbreviation abbreviations segment) left
-  next-word segment left steps holds = ap (parts_behind abbreviations spares) steps ∙ parts_behind-word abbreviations spares segment left (sym holds)
-
-  pub next-characters : (segment : List ℕ) (left : List (List ℕ)) → segments ≡ segment ∷ left → false ≡ is_word segment
-      → parts_behind abbreviations spares segments ≡ gap_characters (without_period spares segment) ∷ parts_behind abbreviations false left
-  next-characters segment left steps fails = ap (parts_behind abbreviations spares) steps ∙ parts_behind-characters abbreviations spares segment left (sym fails)
-
-  pub next-none : segments ≡ [] → parts_behind abbreviations spares segments ≡ []
-  next-none ended = ap (parts_behind abbreviations spares) ended ∙ parts_behind-nil abbreviations spares
-
-module _ (segments : List (List ℕ)) (segment : List ℕ) (left : List (List ℕ)) (steps : segments ≡ segment ∷ left) where
-  pub filter-word : true ≡ is_word segment → filter is_word segments ≡ segment ∷ filter is_word left
-  filter-word holds = ap (filter is_word) steps ∙ cond-true (is_word segment) (segment ∷ filter is_word left) (filter is_word left) (sym holds)
-
-  pub filter-characters : false ≡ is_word segment → filter is_word segments ≡ filter is_word left
-  filter-characters fails = ap (filter is_word) steps ∙ cond-false (is_word segment) (segment ∷ filter is_word left) (filter is_word left) (sym fails)
 
 -- ---- the words
 
@@ -53,7 +33,7 @@ words_among (word bytes ∷ rest) = bytes ∷ words_among rest
 words_among (gap_characters bytes ∷ rest) = words_among rest
 words_among (gap_tag name ∷ rest) = words_among rest
 
-words_among-append : (xs ys : List Part) → words_among (xs ++ ys) ≡ words_among xs ++ words_among ys
+pub words_among-append : (xs ys : List Part) → words_among (xs ++ ys) ≡ words_among xs ++ words_among ys
 words_among-append [] ys = refl
 words_among-append (word bytes ∷ xs) ys = ap (λ l. bytes ∷ l) (words_among-append xs ys)
 words_among-append (gap_characters bytes ∷ xs) ys = words_among-append xs ys
@@ -75,6 +55,10 @@ words_among-segments abbreviations spares (segment ∷ segments) =
       | inr fails ↦ ap words_among (parts_behind-characters abbreviations spares segment segments fails)
           ∙ rw fails (words_among-segments abbreviations false segments)
     ]
+
+-- the words among all parts of a text
+pub words_among-all : (abbreviations : List (List ℕ)) (bytes : List ℕ) (all : List Part) → all ≡ parts_of_text abbreviations bytes → words_among all ≡ words bytes
+words_among-all abbreviations bytes all is = ap words_among is ∙ words_among-segments abbreviations false (word_bounds bytes)
 
 pub words_among-text : (abbreviations : List (List ℕ)) (segments : List (List ℕ)) (rest : List Part) → words_among (parts_behind abbreviations false segments ++ rest) ≡ filter is_word segments ++ words_among rest
 words_among-text abbreviations segments rest =

@@ -2,6 +2,8 @@ pub mod Begun
 pub mod Behind
 pub mod GapSteps
 pub mod Numbering
+pub mod SegmentParts
+pub mod SegmentsLeft
 pub mod StartsLeft
 pub mod TextsKnown
 pub mod Walks

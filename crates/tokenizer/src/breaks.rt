@@ -1,18 +1,18 @@
-ghost use Rattle.std.specs.Prelude.{◌≡◌, ◌+◌, ◌<◌, ◌^◌, ◌++◌, List, map, length, IfOk, OnOk};
-ghost use Rattle.unicode_segmentation.specs.Word.{word_bounds};
+ghost use Rattle.std.specs.Prelude.{◌≡◌, ◌+◌, ◌<◌, ◌^◌, ◌∷◌, ◌++◌, List, length, IfOk, OnOk};
+ghost use Rattle.text_words.specs.Words.{words};
 ghost use Rattle.tokenizer.specs.Parts.{Part, parts_of_text};
+ghost use Rattle.tokenizer.specs.steps.Behind.{StandsIn};
+ghost use Rattle.tokenizer.specs.steps.SegmentParts.{part_of, words_of_segment};
 ghost use Rattle.tokenizer.specs.steps.StartsLeft.{sentences_in, paragraphs_in};
 ghost use Rattle.tokenizer.specs.Tokens.{tokens, words_in, sentence_starts, paragraph_starts};
-ghost use Rattle.text_words.specs.Words.{words};
 
 use crate::behind::characters_behind;
+use crate::segments::{Segment, Segments};
 use crate::starts::Starts;
 use crate::walk::{Event, Walk};
 use ft_base::{Breaks, Memory};
 use plain_tree::PlainDoc;
 use std::alloc::Global;
-use text_words::is_word;
-use unicode::segmentation::UnicodeSegmentation;
 use word_lists::KeySet;
 
 /// The places, counted from 1, of the tokens at which the document's sentences and paragraphs start. A period directly behind an
@@ -47,15 +47,33 @@ fn pass_text(
         paragraphs_in starts.old (parts_of_text abbreviations.now text.now ++ rest) ≡ paragraphs_in starts.new rest) }
     ensures words { OnOk result (starts.new.words ≡ starts.old.words + length (words text.now)) }
 {
-    let mut word = None;
-    for segment in text.split_word_bounds() {
-        if is_word(segment) {
-            starts.pass_word()?;
-            word = Some(segment);
-        } else {
-            starts.pass_characters(characters_behind(alloc, word, segment, abbreviations)?);
-            word = None;
-        }
+    let mut segments = Segments::new(text)?;
+    while let Some(segment) = segments.next() {
+        pass_segment(alloc, starts, text, &segment, abbreviations)?;
     }
+    Ok(())
+}
+
+/// Goes past a segment of a text.
+fn pass_segment(
+    alloc: Global,
+    starts: &mut Starts,
+    text: &str,
+    segment: &Segment<'_>,
+    abbreviations: &KeySet,
+) -> Result<(), Memory>
+    requires fits { starts.old.words + length (words_of_segment segment.now) < 2 ^ 32 }
+    requires stands { StandsIn text.now segment.now.before }
+    ensures sentences { OnOk result ((rest : List Part) →
+        sentences_in starts.old (part_of abbreviations.now text.now segment.now ∷ rest) ≡ sentences_in starts.new rest) }
+    ensures paragraphs { OnOk result ((rest : List Part) →
+        paragraphs_in starts.old (part_of abbreviations.now text.now segment.now ∷ rest) ≡ paragraphs_in starts.new rest) }
+    ensures words { OnOk result (starts.new.words ≡ starts.old.words + length (words_of_segment segment.now)) }
+{
+    if segment.is_word {
+        return starts.pass_word();
+    }
+    let characters = characters_behind(alloc, text, segment.before, segment.text, abbreviations)?;
+    starts.pass_characters(characters);
     Ok(())
 }

@@ -1,6 +1,6 @@
 //! The definitions on short texts, by computation.
 
-ghost use Rattle.std.specs.Prelude.{◌≡◌, ◌∷◌, [], None, Some, codes, false, true};
+ghost use Rattle.std.specs.Prelude.{◌≡◌, ◌∷◌, [], codes, false, true};
 ghost use Rattle.tokenizer.specs.Parts.{word, gap_characters, is_abbreviation, parts_behind, without_period};
 ghost use Rattle.tokenizer.specs.steps.Behind.{spares};
 
@@ -12,7 +12,7 @@ pub fn periods_behind_abbreviations()
     ensures another_mark { without_period true (codes "!") ≡ codes "!" }
     ensures nothing { without_period true [] ≡ [] }
     ensures behind_no_abbreviation { without_period false (codes ".") ≡ codes "." }
-    ensures behind_no_word { spares (codes "dr" ∷ []) None ≡ false }
+    ensures behind_no_word { spares (codes "dr" ∷ []) (codes "Dr. Who") (record { from = 0; to = 0 }) ≡ false }
 {}
 
 /// A word is an abbreviation by its key, which has no case; the set holds keys, not words.
@@ -21,7 +21,7 @@ pub fn abbreviations()
     ensures another_word { is_abbreviation (codes "dr" ∷ []) (codes "drs") ≡ false }
     ensures no_key { is_abbreviation (codes "Dr" ∷ []) (codes "Dr") ≡ false }
     ensures none { is_abbreviation [] (codes "dr") ≡ false }
-    ensures before { spares (codes "dr" ∷ []) (Some (codes "Dr")) ≡ true }
+    ensures before { spares (codes "dr" ∷ []) (codes "Dr. Who") (record { from = 0; to = 2 }) ≡ true }
 {}
 
 /// Of each word it is the period directly behind it that is left out: none behind other characters, none behind the word after it.

@@ -1,6 +1,6 @@
 ghost use Rattle.std.specs.Prelude.{◌≡◌, false, true};
 ghost use Rattle.std.specs.Str.{chars};
-ghost use Rattle.tokenizer.specs.steps.GapSteps.{after_character, after_characters, after_tag, sentence_ended};
+ghost use Rattle.tokenizer.specs.steps.GapSteps.{after_character, after_characters, after_tag, sentence_ended, with_period_if};
 
 use crate::blocks::is_block_element;
 
@@ -53,6 +53,16 @@ impl Gap {
     {
         if !self.paragraph_ends && is_block_element(name) {
             self.paragraph_ends = true;
+        }
+    }
+
+    /// The same gap, in which a period was seen as well, where one stands there.
+    pub(crate) fn with_period_if(self, stands: bool) -> Gap
+        ensures { result ≡ with_period_if stands self }
+    {
+        Gap {
+            sentence_ends: self.sentence_ends | stands,
+            ..self
         }
     }
 

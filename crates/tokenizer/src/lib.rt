@@ -1,4 +1,4 @@
-//! The words of a text, and the tokens of a document: its words with the numbers of their sentences and paragraphs.
+//! The tokens of a document: its words with the numbers of their sentences and paragraphs, and where those start.
 #![tactic(auto)]
 
 mod behind;
@@ -9,6 +9,7 @@ mod gap;
 mod gap_part;
 mod laws;
 mod numbering;
+mod segments;
 mod starts;
 mod text_starts;
 mod tokens;
@@ -19,5 +20,4 @@ pub use ft_base::Token;
 pub use laws::words_law;
 pub use starts::Starts;
 pub use text_starts::{TextRead, TextStarts};
-pub use text_words::{Piece, count_words, words_of};
 pub use tokens::{TokenFault, tokens_of, tokens_of_tree};

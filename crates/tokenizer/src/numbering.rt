@@ -1,8 +1,8 @@
 ghost use Rattle.std.specs.Prelude.{◌≡◌, ◌+◌, ◌≤◌, ◌<◌, ◌^◌, ℕ, List, ◌∷◌};
 ghost use Rattle.std.specs.Str.{chars};
+ghost use Rattle.tokenizer.specs.Parts.{Part, word, gap_characters, gap_tag};
 ghost use Rattle.tokenizer.specs.steps.GapSteps.{after_characters};
 ghost use Rattle.tokenizer.specs.steps.Numbering.{after_word, both_passed, nothing_passed, tokens_left};
-ghost use Rattle.tokenizer.specs.Parts.{Part, word, gap_characters, gap_tag};
 ghost use Rattle.tokenizer.specs.Tokens.{shifted, tokens_from};
 
 use crate::gap::Gap;

@@ -1,10 +1,9 @@
-ghost use Rattle.std.specs.Prelude.{◌≡◌, ◌==◌, ◌+◌, ◌≤◌, ◌<◌, ◌^◌, ◌∷◌, ◌++◌, ℕ, List, [], map, length, Err, IfOk, OnErr, OnOk, if◌then◌else◌};
+ghost use Rattle.std.specs.Prelude.{◌≡◌, ◌==◌, true, ◌+◌, ◌≤◌, ◌<◌, ◌^◌, ◌∷◌, ◌++◌, ℕ, List, [], length, Err, IfOk, OnErr, OnOk, if◌then◌else◌};
 ghost use Rattle.std.specs.Option.{ForSome};
 ghost use Rattle.ft_base.specs.Places.{last_place};
-ghost use Rattle.unicode_segmentation.specs.Word.{word_bounds};
+ghost use Rattle.text_words.specs.Words.{words};
 ghost use Rattle.tokenizer.specs.Parts.{Part, word, gap_characters, gap_tag, parts_of_text};
 ghost use Rattle.tokenizer.specs.Tokens.{tokens_from, sentence_starts, paragraph_starts};
-ghost use Rattle.text_words.specs.Words.{words};
 
 use crate::numbering::Numbering;
 use crate::text_starts::TextRead;
@@ -29,7 +28,7 @@ pub struct Starts {
 impl Starts {
     ghost use Rattle.std.specs.Str.{chars};
     ghost use Rattle.tokenizer.specs.steps.Begun.{Begun};
-    ghost use Rattle.tokenizer.specs.steps.GapSteps.{after_characters};
+    ghost use Rattle.tokenizer.specs.steps.GapSteps.{after_characters, with_period_if};
     ghost use Rattle.tokenizer.specs.steps.Numbering.{after_word, nothing_passed};
     ghost use Rattle.tokenizer.specs.steps.StartsLeft.{words_seen, sentences_in, paragraphs_in};
     ghost use Rattle.tokenizer.specs.steps.TextsKnown.{Tells};
@@ -82,6 +81,16 @@ impl Starts {
         self.last.pass_characters(text);
     }
 
+    /// Goes past a period, where one stands there.
+    pub(crate) fn pass_period_if(&mut self, stands: bool)
+        ensures last { self.new.last ≡ record self.old.last { gap = with_period_if stands self.old.last.gap } }
+        ensures breaks { self.new.breaks ≡ self.old.breaks }
+        ensures words { self.new.words ≡ self.old.words }
+        ensures begun { Begun self.old → (stands ≡ true → 0 < self.old.words) → Begun self.new }
+    {
+        self.last.gap = self.last.gap.with_period_if(stands);
+    }
+
     /// Goes past a tag of an element of this name.
     pub fn pass_tag(&mut self, name: &str)
         ensures sentences { (rest : List Part) →
@@ -115,7 +124,7 @@ impl Starts {
             paragraphs_in self.old (parts_of_text abbreviations.now text.now ++ rest) ≡ paragraphs_in self.new rest) }
     {
         let read = TextRead::read(alloc, text, most - self.words)?;
-        match self.pass_known(&read.starts, abbreviations, most) {
+        match self.pass_known(alloc, text, &read.starts, abbreviations, most) {
             Ok(()) => Ok(read),
             Err(fault) => {
                 drop(read);

@@ -1,18 +1,16 @@
-ghost use Rattle.std.specs.Prelude.{◌≡◌, ◌≤◌, ◌<◌, List, ◌∷◌, ◌++◌, map, length, Err, IfOk, OnOk};
+ghost use Rattle.std.specs.Prelude.{◌≡◌, ◌≤◌, ◌<◌, List, ◌∷◌, ◌++◌, length, Err, IfOk, OnOk};
 ghost use Rattle.plain_tree.specs.View.{node};
-ghost use Rattle.unicode_segmentation.specs.Word.{word_bounds};
-ghost use Rattle.tokenizer.specs.steps.Numbering.{tokens_left};
 ghost use Rattle.tokenizer.specs.Parts.{Part, word, parts_of_text};
+ghost use Rattle.tokenizer.specs.steps.Numbering.{tokens_left};
 ghost use Rattle.tokenizer.specs.Tokens.{tokens, words_in};
 
 use crate::behind::characters_behind;
 use crate::numbering::Numbering;
+use crate::segments::Segments;
 use crate::walk::{Event, Walk};
 use ft_base::{Line, MAX_TOKENS, Memory, Token};
 use plain_tree::{PlainDoc, Tree};
 use std::alloc::{AllocFailed, Global};
-use text_words::is_word;
-use unicode::segmentation::UnicodeSegmentation;
 use word_lists::KeySet;
 
 /// Why a document's tokens are not given.
@@ -102,14 +100,18 @@ fn push_tokens(
     ensures sentence { OnOk result (last.new.sentence ≤ length out.new.items) }
     ensures paragraph { OnOk result (last.new.paragraph ≤ length out.new.items) }
 {
-    let mut word = None;
-    for segment in text.split_word_bounds() {
-        if is_word(segment) {
-            push_token(alloc, out, last, segment)?;
-            word = Some(segment);
+    let mut segments = Segments::new(text)?;
+    while let Some(segment) = segments.next() {
+        if segment.is_word {
+            push_token(alloc, out, last, segment.text)?;
         } else {
-            last.pass_characters(characters_behind(alloc, word, segment, abbreviations)?);
-            word = None;
+            last.pass_characters(characters_behind(
+                alloc,
+                text,
+                segment.before,
+                segment.text,
+                abbreviations,
+            )?);
         }
     }
     Ok(())

@@ -1,5 +1,5 @@
 -- What is known of a gap, step by step, and what it says of the gap while the rest is still to come.
-use Rattle.std.specs.Prelude.{ℕ, Bool, true, false, ◌&&◌, ◌||◌, List, [], ◌∷◌, Option, Some, None, if◌then◌else◌}
+use Rattle.std.specs.Prelude.{ℕ, Bool, true, false, ◌&&◌, ◌||◌, List, [], ◌∷◌, if◌then◌else◌}
 use Rattle.std.specs.List.{list_any}
 use Rattle.ft_base.specs.Characters.{is_blank, is_line_feed}
 use Rattle.tokenizer.specs.Gaps.{is_sentence_end, begins_with_line_end, is_block_element, characters_of, ends_paragraph}
@@ -31,10 +31,10 @@ nothing_seen = record { sentence_ends = false; paragraph_ends = false; after_lin
 abbrev pub with_period : Gap → Gap
 with_period known = record known { sentence_ends = true }
 
--- the same, where a period stands directly behind its word if that word's key is given
-abbrev pub with_period_behind : Option (List ℕ) → Gap → Gap
-with_period_behind None known = known
-with_period_behind (Some key) known = with_period known
+-- the same, where one stands there
+abbrev pub with_period_if : Bool → Gap → Gap
+with_period_if false known = known
+with_period_if true known = with_period known
 
 -- what is known of a gap of which one thing was seen before and another after it
 abbrev pub both_seen : Gap → Gap → Gap

@@ -1,12 +1,13 @@
 -- What is known of a text, wherever it stands: going past the text is going past this.
-use Rattle.std.specs.Prelude.{◌≡◌, ◌<◌, ℕ, ◌+◌, Bool, ◌&&◌, List, [], ◌∷◌, ◌++◌, Option, Some, None, length, bytes_eq, if◌then◌else◌}
-use Rattle.std.specs.List.{list_any}
+use Rattle.std.specs.Prelude.{◌≡◌, ◌<◌, ℕ, ◌+◌, true, false, All, List, [], ◌∷◌, ◌++◌, length, if◌then◌else◌}
 use Rattle.tokenizer.specs.Parts.{Part, parts_of_text}
 use Rattle.tokenizer.specs.Tokens.{starts}
 use Rattle.text_words.specs.Words.{words}
 use Rattle.tokenizer.specs.steps.Begun.{after_begun, places_begun}
-use Rattle.tokenizer.specs.steps.GapSteps.{after_part, nothing_seen}
+use Rattle.tokenizer.specs.steps.Behind.{StandsIn, has_word, period_ends, spares}
+use Rattle.tokenizer.specs.steps.GapSteps.{after_part, nothing_seen, with_period_if}
 use Rattle.tokenizer.specs.steps.Numbering.{paragraph_ends, sentence_ends, tokens_left}
+use Rattle.tokenizer.specs.declared.behind.WordBefore.{WordBefore}
 use Rattle.tokenizer.specs.declared.gap.Gap.{Gap}
 use Rattle.tokenizer.specs.declared.gap_part.GapPart.{GapPart}
 use Rattle.tokenizer.specs.declared.numbering.Numbering.{Numbering}
@@ -20,39 +21,33 @@ pub record Known : Type 0 where
   pub paragraphs : List ℕ
   pub inside : Numbering
 
--- the starts of sentences that stay: not those that only a period directly behind an abbreviation makes. Of each start it is told whether
--- only a period directly behind a word makes it, and the key of that word.
-unfoldable pub staying : List (List ℕ) → List ℕ → List Bool → List (List ℕ) → List ℕ
-staying abbreviations [] by_period keys = []
-staying abbreviations (place ∷ places) [] keys = place ∷ places
-staying abbreviations (place ∷ places) (only ∷ by_period) [] = place ∷ places
-staying abbreviations (place ∷ places) (only ∷ by_period) (key ∷ keys) =
-    (if only && list_any (bytes_eq key) abbreviations then [] else place ∷ []) ++ staying abbreviations places by_period keys
+-- the starts of sentences that stay: not those that only a period directly behind an abbreviation makes. Of each start the word before it
+-- is given, where only a period directly behind that word makes the start.
+unfoldable pub staying : List (List ℕ) → List ℕ → List ℕ → List WordBefore → List ℕ
+staying abbreviations text [] words = []
+staying abbreviations text (place ∷ places) [] = place ∷ places
+staying abbreviations text (place ∷ places) (word ∷ words) =
+    (if spares abbreviations text word then [] else place ∷ []) ++ staying abbreviations text places words
 
-abbrev pub sentences_under : List (List ℕ) → TextStarts → List ℕ
-sentences_under abbreviations text = staying abbreviations text.after.breaks.sentences text.by_period.items text.keys
-
--- of what is known of a gap without a period directly behind its word, and with it, that which holds, by the key of that word
-abbrev pub gap_by : List (List ℕ) → Option (List ℕ) → Gap → Gap → Gap
-gap_by abbreviations None without full = full
-gap_by abbreviations (Some key) without full = if list_any (bytes_eq key) abbreviations then without else full
+abbrev pub sentences_under : List (List ℕ) → List ℕ → TextStarts → List ℕ
+sentences_under abbreviations text known = staying abbreviations text known.after.breaks.sentences known.by_period.items
 
 -- what is known of the gap at the text's end
-abbrev pub gap_under : List (List ℕ) → TextStarts → Gap
-gap_under abbreviations text = gap_by abbreviations text.last_key text.without_period text.after.last.gap
+abbrev pub gap_under : List (List ℕ) → List ℕ → TextStarts → Gap
+gap_under abbreviations text known = with_period_if (period_ends abbreviations text known.last_period) known.after.last.gap
 
-abbrev pub known_under : List (List ℕ) → TextStarts → Known
-known_under abbreviations text = record {
-  before = text.before;
-  words = text.after.words;
-  sentences = sentences_under abbreviations text;
-  paragraphs = text.after.breaks.paragraphs;
-  inside = record text.after.last { sentence = length (sentences_under abbreviations text); gap = gap_under abbreviations text };
+abbrev pub known_under : List (List ℕ) → List ℕ → TextStarts → Known
+known_under abbreviations text known = record {
+  before = known.before;
+  words = known.after.words;
+  sentences = sentences_under abbreviations text known;
+  paragraphs = known.after.breaks.paragraphs;
+  inside = record known.after.last { sentence = length (sentences_under abbreviations text known); gap = gap_under abbreviations text known };
 }
 
 -- how many words the text has
 abbrev pub words_known : TextStarts → ℕ
-words_known text = text.after.words
+words_known known = known.after.words
 
 -- the numbering before the text's first word
 abbrev pub before_first : Known → Numbering → Numbering
@@ -82,17 +77,28 @@ pub record Leads (parts : List Part) (known : Known) (left : List Part) : Type 0
       ++ starts (λ token. token.paragraph) (after_known known last).paragraph (seen + known.words + 1) (tokens_left (after_known known last) (left ++ rest))
 
 -- a word was the last thing that was seen
-pub record AtWord (text : TextStarts) : Type 0 where
-  pub some : 0 < words_known text
-  pub nothing : text.after.last.gap ≡ nothing_seen
+pub record AtWord (known : TextStarts) : Type 0 where
+  pub some : 0 < words_known known
+  pub nothing : known.after.last.gap ≡ nothing_seen
+  pub no_period : has_word known.last_period ≡ false
+
+-- where there is a word, it was the last thing that was seen
+abbrev pub IsBehind : WordBefore → TextStarts → Type 0
+IsBehind word known = has_word word ≡ true → AtWord known
+
+-- the words that are kept with periods stand in the text
+pub record WordsStandIn (text : List ℕ) (known : TextStarts) : Type 0 where
+  pub by_period : All (StandsIn text) known.by_period.items
+  pub last_period : StandsIn text known.last_period
 
 -- while a text is read: of its parts under each set of abbreviations these are left
-pub record Reads (bytes : List ℕ) (text : TextStarts) (left : List (List ℕ) → List Part) : Type 0 where
-  pub by_period : length text.by_period.items ≡ length text.after.breaks.sentences
-  pub keys : length text.keys ≡ length text.after.breaks.sentences
-  pub leads : (abbreviations : List (List ℕ)) → Leads (parts_of_text abbreviations bytes) (known_under abbreviations text) (left abbreviations)
+pub record Reads (text : List ℕ) (known : TextStarts) (left : List (List ℕ) → List Part) : Type 0 where
+  pub told : length known.by_period.items ≡ length known.after.breaks.sentences
+  pub stand : WordsStandIn text known
+  pub leads : (abbreviations : List (List ℕ)) → Leads (parts_of_text abbreviations text) (known_under abbreviations text known) (left abbreviations)
 
 -- the number of the text's words is known, and under no set of abbreviations is anything left of its parts
-pub record Tells (text : TextStarts) (bytes : List ℕ) : Type 0 where
-  pub words : words_known text ≡ length (words bytes)
-  pub leads : (abbreviations : List (List ℕ)) → Leads (parts_of_text abbreviations bytes) (known_under abbreviations text) []
+pub record Tells (known : TextStarts) (text : List ℕ) : Type 0 where
+  pub words : words_known known ≡ length (words text)
+  pub stand : WordsStandIn text known
+  pub leads : (abbreviations : List (List ℕ)) → Leads (parts_of_text abbreviations text) (known_under abbreviations text known) []

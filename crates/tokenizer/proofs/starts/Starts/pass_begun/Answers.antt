@@ -15,8 +15,8 @@ invariant_of-self c =
       paragraphs_few = omega (arith, words, c.pass_word.new.self.paragraphs_few, some);
     }
 
-pub invariant_of-self-in-Break-branch-3 : goal.invariant_of-self-in-Break-branch-3
-invariant_of-self-in-Break-branch-3 c =
+pub invariant_of-self-in-Break-branch-4 : goal.invariant_of-self-in-Break-branch-4
+invariant_of-self-in-Break-branch-4 c =
     let all = c.args.self.now.words + c.args.known.now.after.words in
     let words = c.pass_word.ensures.words in
     let some = c.requires.some in
@@ -33,7 +33,7 @@ invariant_of-self-in-Break-branch-3 c =
 pub pass_numbering-requires-clause-sentence_fits : goal.pass_numbering-requires-clause-sentence_fits
 pass_numbering-requires-clause-sentence_fits c =
     let known = c.args.known.now in
-    let few = staying-few c.args.abbreviations.now known.after.breaks.sentences known.by_period.items known.keys in
+    let few = staying-few c.args.abbreviations.now c.args.text.now known.after.breaks.sentences known.by_period.items in
     omega (arith, c.pass_word.ensures.words, c.pass_word.new.self.sentences_few, c.in_ok-sentences.ensures.count, few, known.begun.counted, known.begun.sentences_few c.requires.some, c.requires.few)
 
 pub invariant_of-self-2 : goal.invariant_of-self-2
@@ -42,7 +42,7 @@ invariant_of-self-2 c =
     let known = c.args.known.now in
     let words = c.pass_word.ensures.words in
     let some = c.requires.some in
-    let few = staying-few c.args.abbreviations.now known.after.breaks.sentences known.by_period.items known.keys in
+    let few = staying-few c.args.abbreviations.now c.args.text.now known.after.breaks.sentences known.by_period.items in
     record {
       sentences_after = c.push_sentences.ensures.most all
           (λ x last. let h = c.pass_word.new.self.sentences_after x last in omega (arith, h, words, some)) (omega arith);

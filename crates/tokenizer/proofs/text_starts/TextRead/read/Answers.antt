@@ -1,66 +1,43 @@
--- A word is the next of the segments that are left, and stands after those so far; other characters are the next as well.
-use Rattle.std.proofs.Common.{◌≡◌, ◌∷◌, ◌++◌, [], false, filter, length, append_assoc, rules, subst, sym, ap, ◌∙◌, arith}
-use Rattle.std.specs.Option.{option_copied}
-use Rattle.unicode_segmentation.specs.Iter.{word_bounds_left}
-use Rattle.unicode_segmentation.specs.Word.{word_bounds}
-use Rattle.text_words.specs.Words.{is_word}
-use Rattle.tokenizer.specs.Parts.{is_abbreviation, parts_behind, parts_of_text}
-use Rattle.tokenizer.specs.steps.Behind.{spares}
-use Rattle.tokenizer.specs.steps.TextsKnown.{Leads, Reads, known_under}
-use Rattle.tokenizer.proofs.PartsLemmas.{filter-characters, filter-word, next-characters, next-none, next-word}
+-- At first all parts of the text are left, each segment is the next of them, and a word stands after those so far.
+use Rattle.std.proofs.Common.{◌≡◌, ◌++◌, [], true, false, length, append_assoc, subst, sym, ap, ◌∙◌, arith}
+use Rattle.tokenizer.specs.steps.Behind.{has_word}
+use Rattle.tokenizer.specs.steps.SegmentParts.{words_of_segment}
+use Rattle.tokenizer.specs.steps.SegmentsLeft.{Steps, parts_left}
+use Rattle.tokenizer.specs.steps.TextsKnown.{Reads}
+use Rattle.tokenizer.proofs.PartsLemmas.{words_among, words_among-all}
+use Rattle.tokenizer.proofs.SegmentsLemmas.{step-count, step-parts, step-stands, step-text, step-words}
 use Rattle.tokenizer.proofs.text_starts.TextRead.read.Goals as goal
 
 pub loop-segment-init : goal.loop-segment-init
 loop-segment-init c =
-    let same : word_bounds_left c.into_iter-segment-iterator.result ≡ word_bounds c.args.text.now = search rules in
+    let text = c.args.text.now in
+    let all = c.in_ok-segments.ensures in
+    let words = words_among-all [] text (parts_left [] c.in_ok-segments.segments) (all.parts []) in
     record {
-      reads = subst (λ segments. Reads c.args.text.now c.new-starts.result (λ abbreviations. parts_behind abbreviations false segments)) (sym same) (c.new-starts.ensures.reads c.args.text.now);
-      at_word = λ word is. cc;
-      counted = omega (arith, c.new-starts.ensures.words, ap (λ l. length (filter is_word l)) same);
-      list = ap (λ l. l ++ filter is_word (word_bounds_left c.into_iter-segment-iterator.result)) c.in_ok-words.ensures ∙ ap (filter is_word) same;
+      text = all.text;
+      behind = λ has. (let none : false ≡ true = sym (ap has_word all.before) ∙ has in cc);
+      reads = subst (Reads text c.new-starts.result) (λ i abbreviations. sym (all.parts abbreviations) i) (c.new-starts.ensures.reads text);
+      counted = omega (arith, c.new-starts.ensures.words, ap length words);
+      list = ap (λ l. l ++ words_among (parts_left [] c.in_ok-segments.segments)) c.in_ok-words.ensures ∙ words;
       few = omega (arith, c.new-starts.ensures.words);
-    }
-
-pub loop-segment-preserved-then-is_word : goal.loop-segment-preserved-then-is_word
-loop-segment-preserved-then-is_word c =
-    let segment = c.in-Some.segment.now in
-    let segments = word_bounds_left c.loop-segment.segment-iterator in
-    let left = word_bounds_left c.next.new.self in
-    let steps = c.in-Some.ensures.steps in
-    let passed = c.in_ok-take_word.ensures in
-    record {
-      reads = passed.reads c.args.text.now (λ abbreviations. parts_behind abbreviations (is_abbreviation abbreviations segment) left)
-          (subst (Reads c.args.text.now c.loop-segment.starts)
-          (λ i abbreviations. next-word abbreviations (spares abbreviations (option_copied c.loop-segment.word)) segments segment left steps c.if-is_word.ensures i) c.loop-segment.invariant.reads);
-      at_word = λ word is. passed.at_word;
-      counted = omega (arith, passed.counted, c.loop-segment.invariant.counted, ap length (filter-word segments segment left steps c.if-is_word.ensures));
-      list = ap (λ l. l ++ filter is_word left) passed.list ∙ append_assoc c.loop-segment.words (segment ∷ []) (filter is_word left)
-          ∙ ap (λ l. c.loop-segment.words ++ l) (sym (filter-word segments segment left steps c.if-is_word.ensures)) ∙ c.loop-segment.invariant.list;
-      few = c.take_word.ensures.few;
     }
 
 pub loop-segment-preserved : goal.loop-segment-preserved
 loop-segment-preserved c =
-    let segment = c.in-Some.segment.now in
-    let segments = word_bounds_left c.loop-segment.segment-iterator in
-    let left = word_bounds_left c.next.new.self in
-    let steps = c.in-Some.ensures.steps in
-    let passed = c.in_ok-pass_characters.ensures in
+    let text = c.args.text.now in
+    let old = c.loop-segment.segments in
+    let segment = c.in-Some.segment in
+    let new = c.next.new.self in
+    let steps : Steps old segment new = c.in-Some.ensures in
+    let same = c.loop-segment.invariant.text in
+    let passed = c.in_ok-pass_segment.ensures in
     record {
-      reads = passed.reads c.args.text.now (λ abbreviations. parts_behind abbreviations false left)
-          (subst (Reads c.args.text.now c.loop-segment.starts)
-          (λ i abbreviations. next-characters abbreviations (spares abbreviations (option_copied c.loop-segment.word)) segments segment left steps c.if-is_word.ensures i) c.loop-segment.invariant.reads);
-      at_word = λ word is. cc;
-      counted = omega (arith, passed.words, c.loop-segment.invariant.counted, ap length (filter-characters segments segment left steps c.if-is_word.ensures));
-      list = ap (λ l. c.loop-segment.words ++ l) (sym (filter-characters segments segment left steps c.if-is_word.ensures)) ∙ c.loop-segment.invariant.list;
-      few = omega (arith, passed.words, c.loop-segment.invariant.few);
-    }
-
-pub returns-clause-tells : goal.returns-clause-tells
-returns-clause-tells c =
-    let ended = c.in-None.ensures.steps.0 in
-    record {
-      words = omega (arith, c.loop-segment.invariant.counted, ap (λ l. length (filter is_word l)) ended);
-      leads = λ abbreviations. subst (Leads (parts_of_text abbreviations c.args.text.now) (known_under abbreviations c.loop-segment.starts))
-          (next-none abbreviations (spares abbreviations (option_copied c.loop-segment.word)) (word_bounds_left c.loop-segment.segment-iterator) ended) (c.loop-segment.invariant.reads.leads abbreviations);
+      text = step-text old segment new steps text same;
+      behind = λ has. passed.at_word (steps.behind_word has);
+      reads = passed.reads text (λ abbreviations. parts_left abbreviations new) (step-stands old segment new steps text same)
+          (subst (Reads text c.loop-segment.starts) (λ i abbreviations. step-parts old segment new steps text same abbreviations i) c.loop-segment.invariant.reads);
+      counted = omega (arith, passed.counted, c.loop-segment.invariant.counted, step-count old segment new steps text same []);
+      list = ap (λ l. l ++ words_among (parts_left [] new)) c.in_ok-push_word.ensures ∙ append_assoc c.loop-segment.words (words_of_segment segment) (words_among (parts_left [] new))
+          ∙ ap (λ l. c.loop-segment.words ++ l) (sym (step-words old segment new steps text same [])) ∙ c.loop-segment.invariant.list;
+      few = c.pass_segment.ensures.few;
     }

@@ -3,9 +3,9 @@ use Rattle.std.proofs.Common.{◌≡◌, ℕ, ◌+◌, ◌<◌, ◌≤◌, ◌�
 use Rattle.std.proofs.lemmas.List.Elements.{All-tail}
 use Rattle.ft_base.specs.Places.{is_ascending, last_place}
 use Rattle.tokenizer.specs.steps.TextsKnown.{staying}
-use Rattle.tokenizer.proofs.PeriodsLemmas.{staying-done, staying-few, staying-kept, staying-left}
+use Rattle.tokenizer.proofs.PeriodsLemmas.{not-false, not-true, staying-done, staying-few, staying-kept, staying-left}
 use Rattle.tokenizer.proofs.PushLemmas.{last-pushed, left-head, next-above, next-most, pushed-done, rest-above}
-use Rattle.tokenizer.proofs.text_starts.TextStarts.push_sentences.Goals.{then-starts_sentence+in_ok-push, else-starts_sentence}
+use Rattle.tokenizer.proofs.text_starts.TextStarts.push_sentences.Goals.{then-is_start+in_ok-push, else-is_start}
 use Rattle.tokenizer.proofs.text_starts.TextStarts.push_sentences.Goals as goal
 
 pub overflow_add-before : goal.overflow_add-before
@@ -35,7 +35,7 @@ overflow_add-count c =
     let self = c.args.self.now in
     let i = c.loop-number.number in
     let more : i < length self.after.breaks.sentences = subst (λ l. i < length l) c.as_slice-starts.ensures.value c.loop-number-test.true in
-    let few = staying-few c.args.abbreviations.now self.after.breaks.sentences self.by_period.items self.keys in
+    let few = staying-few c.args.abbreviations.now c.args.text.now self.after.breaks.sentences self.by_period.items in
     let counted = self.begun.counted in
     let some : 0 < self.after.words = omega (arith, more, counted, self.after.sentences_few) in
     omega (arith, few, counted, c.loop-number.invariant.counted, self.begun.sentences_few some, c.requires.few)
@@ -46,15 +46,15 @@ loop-number-preserved c =
     let places = self.after.breaks.sentences in
     let i = c.loop-number.number in
     let before = c.args.before in
-    let stay = λ (n : ℕ). staying c.args.abbreviations.now (drop n places) (drop n self.by_period.items) (drop n self.keys) in
+    let stay = λ (n : ℕ). staying c.args.abbreviations.now c.args.text.now (drop n places) (drop n self.by_period.items) in
     let same = c.as_slice-starts.ensures.value in
     let up : is_ascending places ≡ true = c.as_slice-starts.ensures.ascending in
     let more : i < length places = subst (λ l. i < length l) same c.loop-number-test.true in
     let invariant = c.loop-number.invariant in
-    elim c.if-starts_sentence.branch [
-      | then-starts_sentence+in_ok-push w ↦
-          let step : stay i ≡ get_or places i 0 ∷ stay (i + 1) = staying-kept c.args.abbreviations.now places self.by_period.items self.keys i more self.periods_told self.keys_told w.if-starts_sentence.ensures in
-          let pushed : c.if-starts_sentence.places ≡ c.loop-number.places ++ (before + get_or places i 0) ∷ [] =
+    elim c.if-is_start.branch [
+      | then-is_start+in_ok-push w ↦
+          let step : stay i ≡ get_or places i 0 ∷ stay (i + 1) = staying-kept c.args.abbreviations.now c.args.text.now places self.by_period.items i more self.told (not-true _ (sym c.in_ok-is_start.ensures ∙ w.if-is_start.true)) in
+          let pushed : c.if-is_start.places ≡ c.loop-number.places ++ (before + get_or places i 0) ∷ [] =
           w.places-is ∙ w.in_ok-push.ensures.ok ∙ ap (λ l. c.loop-number.places ++ (before + get_or l i 0) ∷ []) same in
           record {
             done = pushed-done before (get_or places i 0) (stay i) (stay (i + 1)) c.loop-number.places _ _ step pushed invariant.done;
@@ -63,8 +63,8 @@ loop-number-preserved c =
             most = λ most old words x last. subst (λ n. n ≤ most) (last-pushed c.loop-number.places _ _ x pushed last)
                 (next-most before places i more most up (λ y h. let least = self.after.sentences_after y h in omega (arith, least, words)));
           }
-      | else-starts_sentence w ↦
-          let step : stay i ≡ stay (i + 1) = staying-left c.args.abbreviations.now places self.by_period.items self.keys i more self.periods_told self.keys_told w.if-starts_sentence.ensures in
+      | else-is_start w ↦
+          let step : stay i ≡ stay (i + 1) = staying-left c.args.abbreviations.now c.args.text.now places self.by_period.items i more self.told (not-false _ (sym c.in_ok-is_start.ensures ∙ w.if-is_start.false)) in
           record {
             done = ap (λ l. l ++ map (λ p. before + p) (stay (i + 1))) w.places-is ∙ ap (λ l. c.loop-number.places ++ map (λ p. before + p) l) (sym step) ∙ invariant.done;
             counted = omega (arith, w.count-is, invariant.counted, ap length step);
@@ -78,12 +78,12 @@ pub returns-clause-ok : goal.returns-clause-ok
 returns-clause-ok c =
     let self = c.args.self.now in
     let done : length self.after.breaks.sentences ≤ c.loop-number.number = omega (arith, c.loop-number-test.false, ap length c.as_slice-starts.ensures.value) in
-    let ended = staying-done c.args.abbreviations.now self.after.breaks.sentences self.by_period.items self.keys c.loop-number.number done in
+    let ended = staying-done c.args.abbreviations.now c.args.text.now self.after.breaks.sentences self.by_period.items c.loop-number.number done in
     sym (append-nil _) ∙ ap (λ l. c.loop-number.places ++ map (λ p. c.args.before + p) l) (sym ended) ∙ c.loop-number.invariant.done
 
 pub returns-clause-count : goal.returns-clause-count
 returns-clause-count c =
     let self = c.args.self.now in
     let done : length self.after.breaks.sentences ≤ c.loop-number.number = omega (arith, c.loop-number-test.false, ap length c.as_slice-starts.ensures.value) in
-    let ended = staying-done c.args.abbreviations.now self.after.breaks.sentences self.by_period.items self.keys c.loop-number.number done in
+    let ended = staying-done c.args.abbreviations.now c.args.text.now self.after.breaks.sentences self.by_period.items c.loop-number.number done in
     omega (arith, c.loop-number.invariant.counted, ap length ended)
