@@ -1,3 +1,4 @@
 pub mod Given
+pub mod Limits
 pub mod Names
 pub mod Replies

@@ -7,6 +7,7 @@ use Rattle.doc_profile.specs.declared.fault.DocFault.TheVariants as fault
 use Rattle.ft_base.specs.Limits.{max_documents, max_lists, max_marks}
 use Rattle.ft_base.specs.declared.fault.QueryFault.{QueryFault}
 use Rattle.ft_base.specs.declared.fault.QueryFault.TheVariants as query
+use Rattle.command_replies.specs.Limits.{max_watches}
 use Rattle.command_replies.specs.declared.reply.Counts.{Counts}
 use Rattle.command_replies.specs.declared.reply.FullOf.{FullOf}
 use Rattle.command_replies.specs.declared.reply.FullOf.TheVariants as full
@@ -27,6 +28,7 @@ full_words full.Documents = decimal max_documents ++ codes " documents"
 full_words full.Marks = decimal max_marks ++ codes " marks"
 full_words full.StopLists = decimal max_lists ++ codes " stop lists"
 full_words full.Thesauri = decimal max_lists ++ codes " thesauri"
+full_words full.Watches = decimal max_watches ++ codes " watches"
 
 abbrev pub limit_words : LimitOf → List ℕ
 limit_words limit.Depth = codes "depth"
@@ -85,6 +87,7 @@ abbrev pub reply_text : Reply → List ℕ
 reply_text reply.Done = ended_line (codes "ok")
 reply_text (reply.Nodes lines) = counted_lines lines
 reply_text (reply.Texts lines) = counted_lines lines
+reply_text (reply.Changed lines) = counted_lines lines
 reply_text (reply.Explained text) = ended_line (codes "= " ++ text)
 reply_text (reply.Counts counts) = ended_line (counts_line counts)
 reply_text (reply.Refused why) = ended_line (refusal_line why)

@@ -34,6 +34,12 @@ pub enum Command {
     Mark { name: Line },
     /// Give the mark up.
     Unmark { name: Line },
+    /// Keep the nodes that the path selects now under the name, so that `Changes` tells what came and what went.
+    Watch { name: Line, path: Line },
+    /// Print what came and what went among the nodes that the watch's path selects, and keep those of now.
+    Changes { name: Line },
+    /// Give the watch up.
+    Unwatch { name: Line },
     /// Print the rewritten selection.
     Explain { text: Line },
     /// Print counts.

@@ -3,7 +3,7 @@ ghost use Rattle.std.specs.Fmt.{decimal};
 ghost use Rattle.command_replies.specs.Replies.{counted_lines, counts_line, document_words, ended_line, full_words};
 ghost use Rattle.command_replies.specs.Replies.{limit_words, query_words, refusal_line, reply_text};
 
-use crate::{Counts, FullOf, LimitOf, Refusal, Reply};
+use crate::{Counts, FullOf, LimitOf, MAX_WATCHES, Refusal, Reply};
 use doc_profile::DocFault;
 use ft_base::{Line, MAX_DOCUMENTS, MAX_LISTS, MAX_MARKS, Memory, QueryFault};
 use std::alloc::Global;
@@ -17,6 +17,7 @@ pub fn print_reply(alloc: Global, reply: &Reply) -> Result<Line, Memory>
         Reply::Done => Ok(Line::read(alloc, "ok\n")?),
         Reply::Nodes(lines) => print_lines(alloc, lines),
         Reply::Texts(lines) => print_lines(alloc, lines),
+        Reply::Changed(lines) => print_lines(alloc, lines),
         Reply::Explained(text) => print_named(alloc, "= ", text.as_str()),
         Reply::Counts(counts) => print_counts(alloc, counts),
         Reply::Refused(refusal) => print_refusal(alloc, refusal),
@@ -147,6 +148,7 @@ fn print_full(alloc: Global, what: FullOf) -> Result<Line, Memory>
         FullOf::Marks => print_most(alloc, MAX_MARKS, " marks"),
         FullOf::StopLists => print_most(alloc, MAX_LISTS, " stop lists"),
         FullOf::Thesauri => print_most(alloc, MAX_LISTS, " thesauri"),
+        FullOf::Watches => print_most(alloc, MAX_WATCHES, " watches"),
     }
 }
 

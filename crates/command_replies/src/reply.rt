@@ -14,6 +14,8 @@ pub enum Reply {
     Nodes(TextList),
     /// The selected nodes, each printed in one line.
     Texts(TextList),
+    /// The lines that name nodes which a watch's path selects no longer, each behind `- `, then those which it selects only now, each behind `+ `.
+    Changed(TextList),
     /// The printed form of the rewritten selection.
     Explained(Line),
     /// What the session holds.
@@ -33,6 +35,9 @@ pub struct Counts {
     pub hits: u64,
 }
 
+/// How many watches a session holds at once, at most.
+pub const MAX_WATCHES: usize = 64;
+
 /// What there are as many of as there may be.
 #[derive(Clone, Copy, PartialEq, Eq)]
 pub enum FullOf {
@@ -40,6 +45,7 @@ pub enum FullOf {
     Marks,
     StopLists,
     Thesauri,
+    Watches,
 }
 
 /// What a document would have too much of.
@@ -57,9 +63,9 @@ pub enum Refusal {
     BadCommand { line: u64 },
     /// The line has a name that isn't one.
     BadName { line: u64 },
-    /// There is a document, or a mark, of that name.
+    /// There is a document, a mark or a watch of that name.
     NameTaken { name: Line },
-    /// There is no document, or no mark, of that name.
+    /// There is no document, no mark or no watch of that name.
     NoSuchName { name: Line },
     /// There are as many as there may be.
     Full { what: FullOf },

@@ -5,7 +5,7 @@ use Rattle.ft_base.specs.Lists.{is_empty}
 use Rattle.command_replies.specs.declared.command.Command.{Command}
 use Rattle.command_replies.specs.declared.command.Command.TheVariants as command
 use Rattle.plain_tree.specs.declared.place.How.{How}
-use Rattle.session_text.specs.LineCommands.{block_command, command_of_block, command_of_line, command_of_sized_block, how_of, insertion, made, named, query, query_at, query_at_quoted, quoted_name, with_text}
+use Rattle.session_text.specs.LineCommands.{block_command, command_of_block, command_of_line, command_of_sized_block, how_of, insertion, made, named, named_with_path, query, quoted_name, quoted_name_and_path, watch_command, with_text}
 use Rattle.session_text.specs.Quoted.{is_quoted, quoted}
 use Rattle.text_lines.specs.Lines.{trimmed_line, first_word, after_first_word}
 use Rattle.command_replies.specs.Names.{is_bare_name, is_name, is_quoted_name}
@@ -58,6 +58,34 @@ of_text P number rest make bad good = by (is_empty rest) refl
     by true e = bad number
     by false e = good rest e
 
+-- the same of a name in quotation marks and a path behind it
+of_quoted_and_path : (P : Command → Type 0) (number : ℕ) (read : Option (List ℕ × List ℕ)) (make : List ℕ → List ℕ → Command)
+    → ((n : ℕ) → P (command.BadCommand n)) → ((n : ℕ) → P (command.BadName n)) → ((name path : List ℕ) → is_name name ≡ true → is_empty path ≡ false → P (make name path))
+    → P (made (λ (p : List ℕ × List ℕ). make p.0 p.1) (quoted_name_and_path number read))
+of_quoted_and_path P number None make bad bad_name good = bad number
+of_quoted_and_path P number (Some q) make bad bad_name good = by (is_empty (first_word q.1)) (is_empty (after_first_word q.1)) (is_quoted_name q.0) refl refl
+  where
+    by : (divided empty named : Bool) → is_empty (after_first_word q.1) ≡ empty → is_quoted_name q.0 ≡ named
+        → P (made (λ (p : List ℕ × List ℕ). make p.0 p.1) (cond (not divided || empty) (Err (command.BadCommand number)) (cond named (Ok (q.0, after_first_word q.1)) (Err (command.BadName number)))))
+    by false empty named e f = bad number
+    by true true named e f = bad number
+    by true false true e f = good q.0 (after_first_word q.1) (quoted_is_name q.0 f) e
+    by true false false e f = bad_name number
+
+-- a name and a path make a command only where the one is a name and the other isn't empty
+of_name_and_path : (P : Command → Type 0) (quotes : Bool) (number : ℕ) (rest : List ℕ) (make : List ℕ → List ℕ → Command)
+    → ((n : ℕ) → P (command.BadCommand n)) → ((n : ℕ) → P (command.BadName n)) → ((name path : List ℕ) → is_name name ≡ true → is_empty path ≡ false → P (make name path))
+    → P (named_with_path quotes number rest make)
+of_name_and_path P quotes number rest make bad bad_name good = by (quotes && is_quoted rest) (is_empty (after_first_word rest)) (is_bare_name (first_word rest)) refl refl
+  where
+    by : (quoted_one empty named : Bool) → is_empty (after_first_word rest) ≡ empty → is_bare_name (first_word rest) ≡ named
+        → P (made (λ (p : List ℕ × List ℕ). make p.0 p.1) (cond quoted_one (quoted_name_and_path number (quoted rest))
+        (cond empty (Err (command.BadCommand number)) (cond named (Ok (first_word rest, after_first_word rest)) (Err (command.BadName number))))))
+    by true empty named e f = of_quoted_and_path P number (quoted rest) make bad bad_name good
+    by false true named e f = bad number
+    by false false true e f = good (first_word rest) (after_first_word rest) (bare_is_name (first_word rest) f) e
+    by false false false e f = bad_name number
+
 -- what holds of each command that a line without a block may be
 pub record HoldsOfLines (P : Command → Type 0) : Type 0 where
   pub bad : (n : ℕ) → P (command.BadCommand n)
@@ -70,6 +98,9 @@ pub record HoldsOfLines (P : Command → Type 0) : Type 0 where
   pub print : (path : List ℕ) → is_empty path ≡ false → P (command.Print path)
   pub explain : (text : List ℕ) → is_empty text ≡ false → P (command.Explain text)
   pub query : (path : List ℕ) → is_empty path ≡ false → P (command.Query path)
+  pub watch : (name path : List ℕ) → is_name name ≡ true → is_empty path ≡ false → P (command.Watch name path)
+  pub changes : (name : List ℕ) → is_name name ≡ true → P (command.Changes name)
+  pub unwatch : (name : List ℕ) → is_name name ≡ true → P (command.Unwatch name)
   pub query_at : (name path : List ℕ) → is_name name ≡ true → is_empty path ≡ false → P (command.QueryAt name path)
 
 -- and one with this block
@@ -84,44 +115,31 @@ pub record HoldsOfBlocks (P : Command → Type 0) (block : List ℕ) : Type 0 wh
   pub abbreviations : P (command.Abbreviations block)
   pub thesaurus : (name : List ℕ) → is_name name ≡ true → P (command.Thesaurus name block)
 
-query_at_holds : (P : Command → Type 0) → HoldsOfLines P → (number : ℕ) (name path : List ℕ) → P (query_at number name path)
-query_at_holds P h number name path = by (is_empty path) (is_bare_name name) refl refl
-  where
-    by : (empty named : Bool) → is_empty path ≡ empty → is_bare_name name ≡ named → P (cond empty (command.BadCommand number) (cond named (command.QueryAt name path) (command.BadName number)))
-    by true named e f = h.bad number
-    by false true e f = h.query_at name path (bare_is_name name f) e
-    by false false e f = h.bad_name number
-
-query_at_quoted_holds : (P : Command → Type 0) → HoldsOfLines P → (number : ℕ) (read : Option (List ℕ × List ℕ)) → P (query_at_quoted number read)
-query_at_quoted_holds P h number None = h.bad number
-query_at_quoted_holds P h number (Some q) = by (is_empty (first_word q.1)) (is_empty (after_first_word q.1)) (is_quoted_name q.0) refl refl
-  where
-    by : (divided empty named : Bool) → is_empty (after_first_word q.1) ≡ empty → is_quoted_name q.0 ≡ named
-        → P (cond (not divided || empty) (command.BadCommand number) (cond named (command.QueryAt q.0 (after_first_word q.1)) (command.BadName number)))
-    by false empty named e f = h.bad number
-    by true true named e f = h.bad number
-    by true false true e f = h.query_at q.0 (after_first_word q.1) (quoted_is_name q.0 f) e
-    by true false false e f = h.bad_name number
-
 query_holds : (P : Command → Type 0) → HoldsOfLines P → (quotes : Bool) (number : ℕ) (rest : List ℕ) → P (query quotes number rest)
 query_holds P h quotes number rest =
-    chosen P (not (is_text (first_word rest) (codes "at"))) _ _ (of_text P number rest command.Query h.bad h.query)
-    (chosen P (quotes && is_quoted (after_first_word rest)) _ _ (query_at_quoted_holds P h number (quoted (after_first_word rest)))
-    (query_at_holds P h number (first_word (after_first_word rest)) (after_first_word (after_first_word rest))))
+    chosen P (is_text (first_word rest) (codes "at")) _ _ (of_name_and_path P quotes number (after_first_word rest) command.QueryAt h.bad h.bad_name h.query_at)
+    (of_text P number rest command.Query h.bad h.query)
 
-pub holds_of_line : (P : Command → Type 0) → HoldsOfLines P → (quotes : Bool) (number : ℕ) (line : List ℕ) → P (command_of_line quotes number line)
-holds_of_line P h quotes number line =
+watch_holds : (P : Command → Type 0) → HoldsOfLines P → (number : ℕ) (word rest : List ℕ) → P (watch_command number word rest)
+watch_holds P h number word rest =
+    chosen P (is_text word (codes "watch")) _ _ (of_name_and_path P true number rest command.Watch h.bad h.bad_name h.watch)
+    (chosen P (is_text word (codes "changes")) _ _ (of_name P true number rest command.Changes h.bad h.bad_name h.changes)
+    (chosen P (is_text word (codes "unwatch")) _ _ (of_name P true number rest command.Unwatch h.bad h.bad_name h.unwatch) (h.bad number)))
+
+pub holds_of_line : (P : Command → Type 0) → HoldsOfLines P → (second : Bool) (number : ℕ) (line : List ℕ) → P (command_of_line second number line)
+holds_of_line P h second number line =
     let word = first_word (trimmed_line line) in
     let rest = after_first_word (trimmed_line line) in
     chosen P (is_command_line line) _ _
-    (chosen P (is_text word (codes "query")) _ _ (query_holds P h quotes number rest)
+    (chosen P (is_text word (codes "query")) _ _ (query_holds P h second number rest)
     (chosen P (is_text word (codes "print")) _ _ (of_text P number rest command.Print h.bad h.print)
     (chosen P (is_text word (codes "explain")) _ _ (of_text P number rest command.Explain h.bad h.explain)
     (chosen P (is_text word (codes "delete")) _ _ (of_text P number rest command.Delete h.bad h.delete)
-    (chosen P (is_text word (codes "drop")) _ _ (of_name P quotes number rest command.Drop h.bad h.bad_name h.drop)
-    (chosen P (is_text word (codes "mark")) _ _ (of_name P quotes number rest command.Mark h.bad h.bad_name h.mark)
-    (chosen P (is_text word (codes "unmark")) _ _ (of_name P quotes number rest command.Unmark h.bad h.bad_name h.unmark)
-    (chosen P (is_text word (codes "stats")) _ _ (chosen P (is_empty rest) _ _ h.stats (h.bad number)) (h.bad number)))))))))
+    (chosen P (is_text word (codes "drop")) _ _ (of_name P second number rest command.Drop h.bad h.bad_name h.drop)
+    (chosen P (is_text word (codes "mark")) _ _ (of_name P second number rest command.Mark h.bad h.bad_name h.mark)
+    (chosen P (is_text word (codes "unmark")) _ _ (of_name P second number rest command.Unmark h.bad h.bad_name h.unmark)
+    (chosen P (is_text word (codes "stats")) _ _ (chosen P (is_empty rest) _ _ h.stats (h.bad number))
+    (chosen P second _ _ (watch_holds P h number word rest) (h.bad number))))))))))
     (h.bad number)
 
 insertion_holds : (P : Command → Type 0) (block : List ℕ) → HoldsOfBlocks P block → (number : ℕ) (where_to : Option How) (path : List ℕ) → P (insertion number where_to path block)
@@ -146,17 +164,17 @@ pub holds_of_sized_block : (P : Command → Type 0) (block : List ℕ) → Holds
 holds_of_sized_block P block h number line =
     chosen P (is_command_line line) _ _ (words_hold P block h true number (first_word (trimmed_line line)) (after_first_word (after_first_word (trimmed_line line)))) (h.bad number)
 
--- a query at a document whose name stands in quotation marks
-pub bad_query_name : (number : ℕ) (read : Option (List ℕ × List ℕ)) (name suffix : List ℕ) → read ≡ Some (name, suffix)
-    → is_empty (first_word suffix) ≡ true → is_empty (after_first_word suffix) ≡ false → is_quoted_name name ≡ false → command.BadName number ≡ query_at_quoted number read
-bad_query_name number read name suffix is word path quoted =
-    sym (ap (query_at_quoted number) is
-    ∙ (λ i. cond (not (word i) || path i) (command.BadCommand number) (cond (quoted i) (command.QueryAt name (after_first_word suffix)) (command.BadName number))))
+-- what stands in quotation marks is no name, or is one
+pub bad_quoted_name : (number : ℕ) (read : Option (List ℕ × List ℕ)) (name suffix : List ℕ) → read ≡ Some (name, suffix)
+    → is_empty (first_word suffix) ≡ true → is_empty (after_first_word suffix) ≡ false → is_quoted_name name ≡ false → Err (command.BadName number) ≡ quoted_name_and_path number read
+bad_quoted_name number read name suffix is word path quoted =
+    sym (ap (quoted_name_and_path number) is
+    ∙ (λ i. cond (not (word i) || path i) (Err (command.BadCommand number)) (cond (quoted i) (Ok (name, after_first_word suffix)) (Err (command.BadName number)))))
 
-pub good_query_name : (number : ℕ) (read : Option (List ℕ × List ℕ)) (name suffix said : List ℕ) → read ≡ Some (name, suffix)
+pub good_quoted_name : (number : ℕ) (read : Option (List ℕ × List ℕ)) (name suffix said : List ℕ) → read ≡ Some (name, suffix)
     → is_empty (first_word suffix) ≡ true → is_empty (after_first_word suffix) ≡ false → is_quoted_name name ≡ true → said ≡ after_first_word suffix
-    → command.QueryAt name said ≡ query_at_quoted number read
-good_query_name number read name suffix said is word path quoted says =
-    ap (command.QueryAt name) says
-    ∙ sym (ap (query_at_quoted number) is
-    ∙ (λ i. cond (not (word i) || path i) (command.BadCommand number) (cond (quoted i) (command.QueryAt name (after_first_word suffix)) (command.BadName number))))
+    → Ok (name, said) ≡ quoted_name_and_path number read
+good_quoted_name number read name suffix said is word path quoted says =
+    (λ i. Ok (name, says i))
+    ∙ sym (ap (quoted_name_and_path number) is
+    ∙ (λ i. cond (not (word i) || path i) (Err (command.BadCommand number)) (cond (quoted i) (Ok (name, after_first_word suffix)) (Err (command.BadName number)))))

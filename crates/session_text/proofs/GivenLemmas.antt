@@ -27,6 +27,9 @@ line_readable = holds_of_line (λ c. is_readable c ≡ true) (record {
   print = λ p h. ap not h;
   explain = λ p h. ap not h;
   query = λ p h. ap not h;
+  watch = λ n p h k. and_from _ _ h (ap not k);
+  changes = λ n h. h;
+  unwatch = λ n h. h;
   query_at = λ n p h k. and_from _ _ h (ap not k);
 })
 
@@ -61,6 +64,9 @@ line_blockless = holds_of_line (λ c. block_length c ≡ 0) (record {
   print = λ p h. refl;
   explain = λ p h. refl;
   query = λ p h. refl;
+  watch = λ n p h k. refl;
+  changes = λ n h. refl;
+  unwatch = λ n h. refl;
   query_at = λ n p h k. refl;
 })
 

@@ -42,9 +42,30 @@ name_in quotes number rest =
 abbrev pub text_in : ℕ → List ℕ → Result (List ℕ) Command
 text_in number rest = if is_empty rest then Err (command.BadCommand number) else Ok rest
 
+-- a name and then a path: both, or the command that tells the fault
+abbrev pub name_and_path : ℕ → List ℕ → List ℕ → Result (List ℕ × List ℕ) Command
+name_and_path number name path =
+    if is_empty path then Err (command.BadCommand number)
+    else if is_bare_name name then Ok (name, path)
+    else Err (command.BadName number)
+
+-- the same, where the name stands in quotation marks: a blank is to follow it
+abbrev pub quoted_name_and_path : ℕ → Option (List ℕ × List ℕ) → Result (List ℕ × List ℕ) Command
+quoted_name_and_path number None = Err (command.BadCommand number)
+quoted_name_and_path number (Some q) =
+    if not (is_empty (first_word q.1)) || is_empty (after_first_word q.1) then Err (command.BadCommand number)
+    else if is_quoted_name q.0 then Ok (q.0, after_first_word q.1)
+    else Err (command.BadName number)
+
+-- what follows a command's word, where that is to be a name and then a path
+abbrev pub name_and_path_in : Bool → ℕ → List ℕ → Result (List ℕ × List ℕ) Command
+name_and_path_in quotes number rest =
+    if quotes && is_quoted rest then quoted_name_and_path number (quoted rest)
+    else name_and_path number (first_word rest) (after_first_word rest)
+
 -- the command made of what follows its word
-abbrev pub made : (List ℕ → Command) → Result (List ℕ) Command → Command
-made make (Ok text) = make text
+abbrev pub made : {A : Type 0} → (A → Command) → Result A Command → Command
+made make (Ok read) = make read
 made make (Err fault) = fault
 
 abbrev pub named : Bool → ℕ → List ℕ → (List ℕ → Command) → Command
@@ -52,6 +73,9 @@ named quotes number rest make = made make (name_in quotes number rest)
 
 abbrev pub with_text : ℕ → List ℕ → (List ℕ → Command) → Command
 with_text number rest make = made make (text_in number rest)
+
+abbrev pub named_with_path : Bool → ℕ → List ℕ → (List ℕ → List ℕ → Command) → Command
+named_with_path quotes number rest make = made (λ p. make p.0 p.1) (name_and_path_in quotes number rest)
 
 -- the command, where nothing is to follow its word
 abbrev pub alone : ℕ → List ℕ → Command → Command
@@ -86,49 +110,43 @@ block_command quotes number word rest block =
     else if is_text word (codes "replace") then with_text number rest (λ path. command.Replace path block)
     else list_command quotes number word rest block
 
--- `query at NAME PATH`
-abbrev pub query_at : ℕ → List ℕ → List ℕ → Command
-query_at number name path =
-    if is_empty path then command.BadCommand number
-    else if is_bare_name name then command.QueryAt name path
-    else command.BadName number
-
--- the same, where the name stands in quotation marks: a blank is to follow it
-abbrev pub query_at_quoted : ℕ → Option (List ℕ × List ℕ) → Command
-query_at_quoted number None = command.BadCommand number
-query_at_quoted number (Some q) =
-    if not (is_empty (first_word q.1)) || is_empty (after_first_word q.1) then command.BadCommand number
-    else if is_quoted_name q.0 then command.QueryAt q.0 (after_first_word q.1)
-    else command.BadName number
-
 -- `query at NAME PATH` wherever the second word is `at`, else `query PATH`
 abbrev pub query : Bool → ℕ → List ℕ → Command
 query quotes number rest =
-    if not (is_text (first_word rest) (codes "at")) then with_text number rest command.Query
-    else if quotes && is_quoted (after_first_word rest) then query_at_quoted number (quoted (after_first_word rest))
-    else query_at number (first_word (after_first_word rest)) (after_first_word (after_first_word rest))
+    if is_text (first_word rest) (codes "at") then named_with_path quotes number (after_first_word rest) command.QueryAt
+    else with_text number rest command.Query
 
--- the command with that first word and that rest, without a block
+-- the commands of watches, which stand in sessions of format 2 alone
+abbrev pub watch_command : ℕ → List ℕ → List ℕ → Command
+watch_command number word rest =
+    if is_text word (codes "watch") then named_with_path true number rest command.Watch
+    else if is_text word (codes "changes") then named true number rest command.Changes
+    else if is_text word (codes "unwatch") then named true number rest command.Unwatch
+    else command.BadCommand number
+
+-- The command with that first word and that rest, without a block. The test says whether the session is of format 2, in which names may
+-- stand in quotation marks.
 abbrev pub name_command : Bool → ℕ → List ℕ → List ℕ → Command
-name_command quotes number word rest =
-    if is_text word (codes "drop") then named quotes number rest command.Drop
-    else if is_text word (codes "mark") then named quotes number rest command.Mark
-    else if is_text word (codes "unmark") then named quotes number rest command.Unmark
+name_command second number word rest =
+    if is_text word (codes "drop") then named second number rest command.Drop
+    else if is_text word (codes "mark") then named second number rest command.Mark
+    else if is_text word (codes "unmark") then named second number rest command.Unmark
     else if is_text word (codes "stats") then alone number rest command.Stats
+    else if second then watch_command number word rest
     else command.BadCommand number
 
 abbrev pub line_command : Bool → ℕ → List ℕ → List ℕ → Command
-line_command quotes number word rest =
-    if is_text word (codes "query") then query quotes number rest
+line_command second number word rest =
+    if is_text word (codes "query") then query second number rest
     else if is_text word (codes "print") then with_text number rest command.Print
     else if is_text word (codes "explain") then with_text number rest command.Explain
     else if is_text word (codes "delete") then with_text number rest command.Delete
-    else name_command quotes number word rest
+    else name_command second number word rest
 
 -- the command of a line that no block follows
 abbrev pub command_of_line : Bool → ℕ → List ℕ → Command
-command_of_line quotes number line =
-    if is_command_line line then line_command quotes number (first_word (trimmed_line line)) (after_first_word (trimmed_line line))
+command_of_line second number line =
+    if is_command_line line then line_command second number (first_word (trimmed_line line)) (after_first_word (trimmed_line line))
     else command.BadCommand number
 
 -- the command of a line and the block after it

@@ -5,6 +5,7 @@ mod add;
 pub mod examples;
 mod line;
 mod named;
+mod named_with_path;
 mod parse;
 mod quoted;
 mod reached;
@@ -15,6 +16,6 @@ mod unfinished;
 mod words;
 
 pub use command_replies::{
-    Command, Commands, Counts, FullOf, How, LimitOf, Refusal, Reply, print_reply,
+    Command, Commands, Counts, FullOf, How, LimitOf, MAX_WATCHES, Refusal, Reply, print_reply,
 };
 pub use reader::Lines_;

@@ -1,6 +1,6 @@
 //! Commands that one name or one text after their word makes.
 
-ghost use Rattle.std.specs.Prelude.{◌≡◌, IfOk, false};
+ghost use Rattle.std.specs.Prelude.{◌≡◌, IfOk, false, true};
 ghost use Rattle.session_text.specs.Quoted.{unquoted_on};
 ghost use Rattle.session_text.specs.LineCommands.{name_in, named, quoted_name, text_in, with_text};
 
@@ -181,6 +181,26 @@ pub(crate) fn read_unmark(
 {
     Ok(match read_name(alloc, quotes, number, rest)? {
         Ok(name) => Command::Unmark { name },
+        Err(fault) => fault,
+    })
+}
+
+/// `changes NAME`.
+pub(crate) fn read_changes(alloc: Global, number: u64, rest: &str) -> Result<Command, Memory>
+    ensures { IfOk result (λ command. command ≡ named true number rest.now (λ name. Command.Changes name)) }
+{
+    Ok(match read_name(alloc, true, number, rest)? {
+        Ok(name) => Command::Changes { name },
+        Err(fault) => fault,
+    })
+}
+
+/// `unwatch NAME`.
+pub(crate) fn read_unwatch(alloc: Global, number: u64, rest: &str) -> Result<Command, Memory>
+    ensures { IfOk result (λ command. command ≡ named true number rest.now (λ name. Command.Unwatch name)) }
+{
+    Ok(match read_name(alloc, true, number, rest)? {
+        Ok(name) => Command::Unwatch { name },
         Err(fault) => fault,
     })
 }

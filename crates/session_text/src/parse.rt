@@ -2,22 +2,22 @@ ghost use Rattle.std.specs.Prelude.{◌≡◌, ◌≤◌, false, true, IfOk, IfS
 ghost use Rattle.text_lines.specs.Lines.{is_skipped, trimmed_line};
 ghost use Rattle.session_text.specs.LineCommands.{alone as made_alone, block_command, command_of_block, command_of_line, command_of_sized_block, how_of, insertion};
 ghost use Rattle.session_text.specs.LineCommands.{line_command, list_command, name_command, opens_block as block_follows};
-ghost use Rattle.session_text.specs.LineCommands.{opens_sized_block as sized_block_follows, query, query_at, query_at_quoted};
-ghost use Rattle.session_text.specs.Quoted.{unquoted_on};
+ghost use Rattle.session_text.specs.LineCommands.{opens_sized_block as sized_block_follows, query, watch_command};
 ghost use Rattle.ft_base.specs.Limits.{max_session_bytes};
 ghost use Rattle.session_text.specs.SizedBlocks.{block_size};
 ghost use Rattle.session_text.specs.Words.{is_command_line};
 
 use crate::line::is_word;
 use crate::named::{
-    read_delete, read_drop, read_explain, read_insert, read_load, read_mark, read_plain_query,
-    read_print, read_replace, read_stop, read_thesaurus, read_unmark,
+    read_changes, read_delete, read_drop, read_explain, read_insert, read_load, read_mark,
+    read_plain_query, read_print, read_replace, read_stop, read_thesaurus, read_unmark,
+    read_unwatch,
 };
-use crate::quoted::{behind_quote, read_quoted};
+use crate::named_with_path::{read_query_at, read_watch};
 use crate::size::size_of;
-use crate::words::{can_name, can_quote, split_word};
+use crate::words::split_word;
 use crate::{Command, How};
-use ft_base::{Bytes, Line, MAX_LINE_BYTES, Memory};
+use ft_base::{Bytes, MAX_LINE_BYTES, Memory};
 use std::alloc::Global;
 use text_lines::{drop_return, trim_line, word_end};
 
@@ -112,76 +112,57 @@ fn read_list_command(
     Ok(Command::BadCommand { line: number })
 }
 
-/// `query at NAME PATH`.
-fn read_query_at(alloc: Global, number: u64, name: &str, path: &str) -> Result<Command, Memory>
-    ensures { IfOk result (λ command. command ≡ query_at number name.now path.now) }
-{
-    if path.is_empty() {
-        return Ok(Command::BadCommand { line: number });
-    }
-    if !can_name(name) {
-        return Ok(Command::BadName { line: number });
-    }
-    Ok(Command::QueryAt {
-        name: Line::read(alloc, name)?,
-        path: Line::read(alloc, path)?,
-    })
-}
-
-/// The same behind the quotation mark with which the name begins.
-fn read_query_at_quoted(alloc: Global, number: u64, quoted: &str) -> Result<Command, Memory>
-    ensures { IfOk result (λ command. command ≡ query_at_quoted number (unquoted_on false quoted.now)) }
-{
-    let Some((name, suffix)) = read_quoted(alloc, quoted)? else {
-        return Ok(Command::BadCommand { line: number });
-    };
-    let (word, path) = split_word(suffix);
-    if !word.is_empty() || path.is_empty() {
-        return Ok(Command::BadCommand { line: number });
-    }
-    if !can_quote(name.as_str()) {
-        return Ok(Command::BadName { line: number });
-    }
-    let path = Line::read(alloc, path)?;
-    Ok(Command::QueryAt { name, path })
-}
-
 /// `query at NAME PATH` wherever the second word is `at`, else `query PATH`.
 fn read_query(alloc: Global, quotes: bool, number: u64, rest: &str) -> Result<Command, Memory>
     ensures { IfOk result (λ command. command ≡ query quotes number rest.now) }
 {
-    let (second, suffix) = split_word(rest);
-    if second != "at" {
-        return read_plain_query(alloc, number, rest);
+    let (word, suffix) = split_word(rest);
+    if word == "at" {
+        return read_query_at(alloc, quotes, number, suffix);
     }
-    if let Some(quoted) = behind_quote(quotes, suffix) {
-        return read_query_at_quoted(alloc, number, quoted);
-    }
-    let (name, path) = split_word(suffix);
-    read_query_at(alloc, number, name, path)
+    read_plain_query(alloc, number, rest)
 }
 
-/// The command with that first word and that rest, without a block.
+/// The command of watches with that first word and that rest.
+fn read_watch_command(alloc: Global, number: u64, word: &str, rest: &str) -> Result<Command, Memory>
+    ensures { IfOk result (λ command. command ≡ watch_command number word.now rest.now) }
+{
+    if word == "watch" {
+        return read_watch(alloc, number, rest);
+    }
+    if word == "changes" {
+        return read_changes(alloc, number, rest);
+    }
+    if word == "unwatch" {
+        return read_unwatch(alloc, number, rest);
+    }
+    Ok(Command::BadCommand { line: number })
+}
+
+/// The command with that first word and that rest, without a block, in a session of format 2 or of format 1.
 fn read_name_command(
     alloc: Global,
-    quotes: bool,
+    second: bool,
     number: u64,
     word: &str,
     rest: &str,
 ) -> Result<Command, Memory>
-    ensures { IfOk result (λ command. command ≡ name_command quotes number word.now rest.now) }
+    ensures { IfOk result (λ command. command ≡ name_command second number word.now rest.now) }
 {
     if word == "drop" {
-        return read_drop(alloc, quotes, number, rest);
+        return read_drop(alloc, second, number, rest);
     }
     if word == "mark" {
-        return read_mark(alloc, quotes, number, rest);
+        return read_mark(alloc, second, number, rest);
     }
     if word == "unmark" {
-        return read_unmark(alloc, quotes, number, rest);
+        return read_unmark(alloc, second, number, rest);
     }
     if word == "stats" {
         return Ok(alone(number, rest, Command::Stats));
+    }
+    if second {
+        return read_watch_command(alloc, number, word, rest);
     }
     Ok(Command::BadCommand { line: number })
 }
@@ -189,15 +170,15 @@ fn read_name_command(
 /// The same, and first the commands with a path or a selection.
 fn read_line_command(
     alloc: Global,
-    quotes: bool,
+    second: bool,
     number: u64,
     word: &str,
     rest: &str,
 ) -> Result<Command, Memory>
-    ensures { IfOk result (λ command. command ≡ line_command quotes number word.now rest.now) }
+    ensures { IfOk result (λ command. command ≡ line_command second number word.now rest.now) }
 {
     if word == "query" {
-        return read_query(alloc, quotes, number, rest);
+        return read_query(alloc, second, number, rest);
     }
     if word == "print" {
         return read_print(alloc, number, rest);
@@ -208,7 +189,7 @@ fn read_line_command(
     if word == "delete" {
         return read_delete(alloc, number, rest);
     }
-    read_name_command(alloc, quotes, number, word, rest)
+    read_name_command(alloc, second, number, word, rest)
 }
 
 /// What a command line says, unless it is too long or isn't UTF-8.
@@ -247,19 +228,19 @@ fn opens_sized_block(line: &[u8]) -> bool
     opens_block(line) || is_word(&text[..word_end(text)], "abbreviations")
 }
 
-/// The command of the line of that number, which no block follows.
+/// The command of the line of that number, which no block follows, in a session of format 2 or of format 1.
 pub(crate) fn read_line(
     alloc: Global,
-    quotes: bool,
+    second: bool,
     number: u64,
     line: &[u8],
 ) -> Result<Command, Memory>
-    ensures { IfOk result (λ command. command ≡ command_of_line quotes number line.now) }
+    ensures { IfOk result (λ command. command ≡ command_of_line second number line.now) }
 {
     match command_text_of(line) {
         Some(text) => {
             let (word, rest) = split_word(text);
-            read_line_command(alloc, quotes, number, word, rest)
+            read_line_command(alloc, second, number, word, rest)
         }
         None => Ok(Command::BadCommand { line: number }),
     }
