@@ -1,6 +1,6 @@
 //! Standing queries: the lines that were answered last, document by document, and what went and came since then.
 //!
-//! A document that stays as it was is known by its stamp, and brings no lines. No command uses this yet.
+//! A document that stays as it was is known by its stamp, and brings no lines.
 #![tactic(auto)]
 
 pub mod examples;

@@ -28,14 +28,21 @@ impl Model for Standing {
 }
 
 impl Standing {
+    /// No answers.
+    pub fn empty(alloc: Global) -> Standing
+        ensures { result ≡ [] }
+    {
+        Standing {
+            answers: IndexMap::new(alloc),
+        }
+    }
+
     /// The answers for which the turns stand. No two of them have one stamp, and each brings its lines; one that brings none has none.
     pub fn new(alloc: Global, answers: &[Turn]) -> Result<Standing, Memory>
         requires stamps { IsDistinct nat_eq (stamps_of answers.now) }
         ensures { IfOk result (λ standing. standing ≡ answers_of [] answers.now) }
     {
-        let none = Standing {
-            answers: IndexMap::new(alloc),
-        };
+        let none = Standing::empty(alloc);
         none.after(alloc, answers)
     }
 

@@ -1,0 +1,4 @@
+pub mod Stamps
+pub mod Stamped
+pub mod Examples
+pub mod steps
