@@ -25,5 +25,5 @@ pub mod OfferedLemmas
 pub mod OutermostLemmas
 pub mod SpanLemmas
 pub mod SufficeLemmas
-pub mod NamingLemmas
+pub mod OfferingLemmas
 pub mod RulingOutLemmas

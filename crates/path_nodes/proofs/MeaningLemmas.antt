@@ -1,6 +1,6 @@
 -- What steps, predicates and conditions say, one item further.
 use mathlib.Core.Bool.{beq}
-use Rattle.std.proofs.Common.{◌≡◌, ◌+◌, ◌<◌, ℕ, Bool, true, false, not, ◌||◌, ◌&&◌, List, [], ◌∷◌, ◌++◌, map, flat_map, drop, length, get_or, cond, refl, sym, ap, ◌∙◌}
+use Rattle.std.proofs.Common.{◌≡◌, ◌+◌, ◌<◌, ℕ, zero, suc, Bool, true, false, not, ◌||◌, ◌&&◌, List, [], ◌∷◌, ◌++◌, map, flat_map, drop, length, get_or, cond, refl, sym, ap, ◌∙◌, arith}
 use Rattle.std.proofs.lemmas.List.{drop_more, map-append}
 use Rattle.path_meaning.specs.Elements.{Element, element_children}
 use Rattle.path_grammar.specs.Form as form
@@ -9,7 +9,7 @@ use Rattle.path_grammar.specs.View.{step, predicate, condition}
 use Rattle.path_grammar.specs.declared.path.Step.{Step}
 use Rattle.path_grammar.specs.declared.path.Predicate.{Predicate}
 use Rattle.path_grammar.specs.declared.path.Condition.{Condition}
-use Rattle.path_nodes.specs.steps.Kept.{parents, joined}
+use Rattle.path_nodes.specs.steps.Kept.{is_number, joined, parents, passes, passes_by, some_number}
 use Rattle.path_nodes.specs.steps.Regions.{at_or_below}
 
 -- a truth that was compared with another is that one, or it isn't
@@ -18,6 +18,10 @@ compared true true equal h = ap (λ t. cond t true false) h
 compared true false equal h = ap (λ t. cond t false true) h
 compared false true equal h = ap (λ t. cond t true false) h
 compared false false equal h = ap (λ t. cond t false true) h
+
+both-false : (a b : Bool) → (a || b) ≡ false → (a ≡ false) × (b ≡ false)
+both-false true b h = cc
+both-false false b h = (refl, h)
 
 module _ (sat : ℕ → Element → Bool) (all : List Element) where
   pub led-next : (xs : List Step) (i : ℕ) (d : Step) → i < length xs → (items new : List Element) → new ≡ stepped sat all (step (get_or xs i d)) (map item items)
@@ -43,6 +47,32 @@ module _ (sat : ℕ → Element → Bool) (all : List Element) where
   unfolding filtered
   filtered-none form.no_predicates = refl
   filtered-none (form.predicate_then p ps) = ap (filtered sat all ps) (by-none p) ∙ filtered-none ps
+
+  -- ---- predicates of one element
+
+  by-one : (p : form.Predicate) → is_number p ≡ false → (e : Element) → filtered_by sat all p (e ∷ []) ≡ cond (passes_by sat all p e) (e ∷ []) []
+  unfolding filtered_by
+  by-one (form.number k) none e = cc
+  by-one (form.holds c) none e = refl
+
+  not-number : (xs : List Predicate) (i : ℕ) (d : Predicate) → i < length xs → some_number (form.predicates (map predicate xs)) ≡ false → is_number (predicate (get_or xs i d)) ≡ false
+  not-number [] i d lt none = absurd (omega (arith, lt))
+  not-number (x ∷ xs) zero d lt none = (both-false (is_number (predicate x)) (some_number (form.predicates (map predicate xs))) none).0
+  not-number (x ∷ xs) (suc i) d lt none = not-number xs i d (omega (arith, lt)) (both-false (is_number (predicate x)) (some_number (form.predicates (map predicate xs))) none).1
+
+  module _ (xs : List Predicate) (i : ℕ) (d : Predicate) (lt : i < length xs) (e : Element) where
+    pub passes-next : passes_by sat all (predicate (get_or xs i d)) e ≡ true → passes sat all (form.predicates (map predicate (drop (i + 1) xs))) e ≡ passes sat all (form.predicates (map predicate (drop i xs))) e
+    passes-next is =
+        sym (ap (λ l. passes sat all (form.predicates (map predicate l)) e) (drop_more xs i d lt)
+        ∙ ap (λ b. b && passes sat all (form.predicates (map predicate (drop (i + 1) xs))) e) is)
+
+    pub passes-stop : passes_by sat all (predicate (get_or xs i d)) e ≡ false → false ≡ passes sat all (form.predicates (map predicate (drop i xs))) e
+    passes-stop is =
+        sym (ap (λ l. passes sat all (form.predicates (map predicate l)) e) (drop_more xs i d lt)
+        ∙ ap (λ b. b && passes sat all (form.predicates (map predicate (drop (i + 1) xs))) e) is)
+
+    pub stays-one : some_number (form.predicates (map predicate xs)) ≡ false → passes_by sat all (predicate (get_or xs i d)) e ≡ true → e ∷ [] ≡ filtered_by sat all (predicate (get_or xs i d)) (e ∷ [])
+    stays-one none is = sym (by-one (predicate (get_or xs i d)) (not-number xs i d lt none) e ∙ ap (λ b. cond b (e ∷ []) []) is)
 
   -- ---- conditions that one of them decides: the first one, or one of the rest
 

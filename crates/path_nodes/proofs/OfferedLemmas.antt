@@ -21,7 +21,7 @@ use Rattle.path_meaning.proofs.Lists.{filter-true, filter-filter, filter-alike, 
 use Rattle.ordered_tree.specs.Numbered.{Numbered, plain}
 use Rattle.path_nodes.specs.Prices.{predicates_price, condition_price, children_price}
 use Rattle.path_nodes.specs.Says.{Meaning, satisfied}
-use Rattle.path_nodes.specs.steps.Kept.{parents, offered, kept_children, some_number, has_number}
+use Rattle.path_nodes.specs.steps.Kept.{parents, offered, kept_children, passes, some_number, has_number}
 use Rattle.path_nodes.specs.steps.Regions.{at_or_below, below}
 use Rattle.path_nodes.specs.steps.Within.{Precedes}
 use Rattle.path_nodes.proofs.AlikeLemmas.{region-in, children-in}
@@ -77,25 +77,20 @@ or-turned false false c d = refl
 -- ---- predicates that are conditions, on each element by itself
 
 module _ (sat : ℕ → Element → Bool) (all : List Element) where
-  abbrev pub passes : Predicates → Element → Bool
-  passes no_predicates e = true
-  passes (predicate_then (form.number k) rest) e = true
-  passes (predicate_then (form.holds c) rest) e = is_true sat all c e && passes rest e
-
-  pub filtered-passes : (ps : Predicates) → some_number ps ≡ false → (items : List Element) → filtered sat all ps items ≡ filter (passes ps) items
+  pub filtered-passes : (ps : Predicates) → some_number ps ≡ false → (items : List Element) → filtered sat all ps items ≡ filter (passes sat all ps) items
   unfolding filtered filtered_by
   filtered-passes no_predicates none items = sym (filter-true items)
   filtered-passes (predicate_then (form.number k) rest) none items = cc
   filtered-passes (predicate_then (form.holds c) rest) none items =
-      filtered-passes rest none (filter (is_true sat all c) items) ∙ filter-filter (is_true sat all c) (passes rest) items
+      filtered-passes rest none (filter (is_true sat all c) items) ∙ filter-filter (is_true sat all c) (passes sat all rest) items
 
   -- an element is in one of the lists that are kept where an element of theirs passes and is the same
   module _ (name : Element → Bool) (ps : Predicates) (none : some_number ps ≡ false) where
     abbrev pub wanted : Element → Bool
-    wanted e = name e && passes ps e
+    wanted e = name e && passes sat all ps e
 
     pub kept-wanted : (items : List Element) → filtered sat all ps (filter name items) ≡ filter wanted items
-    kept-wanted items = filtered-passes ps none (filter name items) ∙ filter-filter name (passes ps) items
+    kept-wanted items = filtered-passes ps none (filter name items) ∙ filter-filter name (passes sat all ps) items
 
     in-one : (e : Element) (items : List Element) → list_any (is_same e) (filtered sat all ps (filter name items)) ≡ list_any (λ x. wanted x && is_same e x) items
     in-one e items = ap (list_any (is_same e)) (kept-wanted items) ∙ list_any-filter (is_same e) wanted items

@@ -100,6 +100,12 @@ module _ (root : Numbered) (m : Meaning) where
   unfolding predicate_tests
   price-holds c items = sym (price-flat (condition_tests (satisfied root m) (elements (plain root)) c) items)
 
+  pub one-holds : (c : form.Condition) (e : Element) → condition_price root m c e ≡ predicate_price root m (form.holds c) (e ∷ [])
+  one-holds c e =
+      let all = price-holds c (e ∷ []) in
+      let one = sum_by-cons (condition_price root m c) e [] in
+      omega (arith, all, one)
+
   -- ---- a step, by its parents
 
   pub step-price : (s : form.Step) (deep : Bool) (test : _) (ps : form.Predicates) (cs : List Element) → s ≡ form.step deep test ps

@@ -1,7 +1,8 @@
 -- The elements at and below an element are those of its children's.
 use Rattle.std.proofs.Common.{◌≡◌, ◌+◌, ◌<◌, ◌≤◌, ℕ, suc, true, List, [], ◌∷◌, ◌++◌, map, flat_map, take, get_or, length, refl, sym, ap, ◌∙◌, subst, arith, append-nil}
-use Rattle.std.specs.List.{All}
+use Rattle.std.specs.List.{All, sum_by}
 use Rattle.std.proofs.lemmas.Grind.{flat_map-append}
+use Rattle.std.proofs.lemmas.List.Sums.{sum_by-cons}
 use Rattle.std.proofs.lemmas.List.Elements.{All-nil, All-cons, All-get_or}
 use Rattle.plain_tree.specs.Document.{Node, element, text, Nodes, no_nodes, node_then}
 use Rattle.path_meaning.specs.Elements as elements
@@ -11,6 +12,7 @@ use Rattle.ordered_tree.specs.Numbered.{Numbered, element_at, text_at, plain, is
 use Rattle.ft_base.specs.declared.ids.NodeRef.{NodeRef}
 use Rattle.path_nodes.specs.References.{element_of, IsElement}
 use Rattle.path_nodes.specs.steps.Regions.{at_or_below, below}
+use Rattle.path_nodes.specs.steps.Weights.{weight, weights}
 use Rattle.path_nodes.proofs.PlaceLemmas.{element-is}
 use Rattle.path_nodes.proofs.SpotLemmas.{of_number}
 
@@ -31,15 +33,6 @@ below-children e = below-among e.place 1 (kids_of e.node)
 
 -- ---- how deep an element's node is: each child's is less
 
-abbrev mutual
-  pub weight : Node → ℕ
-  weight (element name attributes kids) = suc (weights kids)
-  weight (text bytes) = 1
-
-  pub weights : Nodes → ℕ
-  weights no_nodes = 0
-  weights (node_then n ns) = weight n + weights ns
-
 wider : (most more : ℕ) (xs : List Element) → most < suc more → All (λ e. weight e.node < suc most) xs → All (λ e. weight e.node < suc more) xs
 wider most more xs less h k d within = let a = h k d within in omega (arith, a, less)
 
@@ -58,6 +51,18 @@ kids-light (text bytes) = omega arith
 
 pub children-light : (e : Element) → All (λ c. weight c.node < weight e.node) (element_children e)
 children-light e k d within = let a = among-light e.place 1 (kids_of e.node) k d within in omega (arith, a, kids-light e.node)
+
+-- its children together are lighter than it
+among-weigh : (above : List ℕ) (number : ℕ) (ns : Nodes) → sum_by (λ (e : Element). weight e.node) (elements_among above number ns) ≤ weights ns
+among-weigh above number no_nodes = omega arith
+among-weigh above number (node_then (element name attributes kids) ns) =
+    let rest = among-weigh above (number + 1) ns in
+    let one = sum_by-cons (λ (e : Element). weight e.node) (placed (above ++ number ∷ []) (element name attributes kids)) (elements_among above (number + 1) ns) in
+    omega (arith, rest, one)
+among-weigh above number (node_then (text bytes) ns) = let rest = among-weigh above (number + 1) ns in omega (arith, rest)
+
+pub children-weigh : (e : Element) → sum_by (λ (c : Element). weight c.node) (element_children e) < weight e.node
+children-weigh e = let all = among-weigh e.place 1 (kids_of e.node) in let less = kids-light e.node in omega (arith, all, less)
 
 -- ---- the elements that references name
 

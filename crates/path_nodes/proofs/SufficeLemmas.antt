@@ -1,5 +1,5 @@
 -- Elements of which predicates keep what they keep of others: some more of both, and those that are left out.
-use Rattle.std.proofs.Common.{◌≡◌, ◌≤◌, ℕ, Bool, true, false, List, [], ◌∷◌, ◌++◌, filter, get_or, refl, sym, ap, ◌∙◌, subst, arith, append-nil}
+use Rattle.std.proofs.Common.{◌≡◌, ◌≤◌, ℕ, Bool, true, false, List, [], ◌∷◌, ◌++◌, filter, get_or, refl, sym, ap, ◌∙◌, subst, arith}
 use Rattle.std.specs.List.{All, Contains}
 use Rattle.std.proofs.lemmas.List.Elements.{All-nil, All-cons, All-filter, All-contains, All-contains_itself, Contains-get_or, filter-append}
 use Rattle.ft_base.specs.declared.span.Span.{Span}
@@ -12,11 +12,11 @@ use Rattle.path_meaning.specs.Meaning.{filtered}
 use Rattle.path_nodes.specs.Prices.{predicates_price}
 use Rattle.path_nodes.specs.References.{element_of, IsElement}
 use Rattle.path_nodes.specs.Says.{Meaning, satisfied}
-use Rattle.path_nodes.specs.steps.Kept.{offered, offered_from, some_number}
+use Rattle.path_nodes.specs.steps.Kept.{offered, offered_from, passes, some_number}
 use Rattle.path_nodes.specs.steps.Regions.{at_or_below, below}
 use Rattle.path_nodes.specs.steps.RuledOut.{StandsWithin, KeepNothing, KeepNoneUnder, Suffice}
 use Rattle.path_nodes.proofs.AlikeLemmas.{children-from}
-use Rattle.path_nodes.proofs.OfferedLemmas.{filtered-passes, passes, price-parts}
+use Rattle.path_nodes.proofs.OfferedLemmas.{filtered-passes, price-parts}
 use Rattle.path_nodes.proofs.PlaceLemmas.{element-is}
 use Rattle.path_nodes.proofs.RegionLemmas.{opened}
 use Rattle.path_nodes.proofs.SpanLemmas.{below-within}
@@ -36,7 +36,7 @@ module _ (root : Numbered) (m : Meaning) (ps : Predicates) where
   suffice-further xs ys zs a b = record { kept = a.kept ∙ b.kept; price = let first = a.price in let second = b.price in omega (arith, first, second) }
 
   module _ (none : some_number ps ≡ false) where
-    kept-parts : (xs ys : List Element) → keeps (xs ++ ys) ≡ keeps xs ++ keeps ys
+    pub kept-parts : (xs ys : List Element) → keeps (xs ++ ys) ≡ keeps xs ++ keeps ys
     kept-parts xs ys =
         let sat = satisfied root m in
         let every = elements (plain root) in
@@ -45,20 +45,10 @@ module _ (root : Numbered) (m : Meaning) (ps : Predicates) where
         ∙ ap (λ l. l ++ filter (passes sat every ps) ys) (sym (filtered-passes sat every ps none xs))
         ∙ ap (λ l. keeps xs ++ l) (sym (filtered-passes sat every ps none ys))
 
-    pub suffice-more : (xs ys more : List Element) → Suffice root m ps xs ys → Suffice root m ps (xs ++ more) (ys ++ more)
-    suffice-more xs ys more h = record {
-      kept = kept-parts xs more ∙ ap (λ l. l ++ keeps more) h.kept ∙ sym (kept-parts ys more);
-      price =
-          let first = price-parts root m ps none xs more in
-          let second = price-parts root m ps none ys more in
-          let less = h.price in
-          omega (arith, first, second, less);
-    }
-
-    pub suffice-without : (xs left : List Element) → keeps left ≡ [] → Suffice root m ps xs (xs ++ left)
-    suffice-without xs left nothing = record {
-      kept = sym (kept-parts xs left ∙ ap (λ l. keeps xs ++ l) nothing ∙ append-nil (keeps xs));
-      price = let parts = price-parts root m ps none xs left in omega (arith, parts);
+    pub suffice-behind : (left xs : List Element) → keeps left ≡ [] → Suffice root m ps xs (left ++ xs)
+    suffice-behind left xs nothing = record {
+      kept = sym (kept-parts left xs ∙ ap (λ l. l ++ keeps xs) nothing);
+      price = let parts = price-parts root m ps none left xs in omega (arith, parts);
     }
 
 -- ---- what is skipped

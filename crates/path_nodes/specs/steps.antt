@@ -3,7 +3,9 @@ pub mod Known
 pub mod Leading
 pub mod Marks
 pub mod Members
+pub mod Offered
 pub mod Regions
 pub mod RuledOut
 pub mod Ways
+pub mod Weights
 pub mod Within

@@ -21,8 +21,9 @@ pub trait TextTest {
         ensures meaning { meaning self.new ≡ meaning self.old }
         ensures cost { cost self.new ≤ cost self.old + (meaning self.old).price selection node };
 
-    /// A place up to which the selection of this number is known at once not to be satisfied: no node for which it may be asked, whose
-    /// span starts at `from` or after it and ends at or before the result, satisfies it. 0 says nothing. It spends nothing.
+    /// A place up to which the selection of this number is known by now not to be satisfied: no node for which it may be asked, whose
+    /// span starts at `from` or after it and ends at or before the result, satisfies it. 0 says nothing. It spends nothing, so that it
+    /// tells no more than what was found when it was asked before.
     fn skip_to(&self, selection: usize, from: u32) -> u32
         ensures { (node : NodeRef) → IsTrue ((meaning self.now).may_ask selection node) → from ≤ ((meaning self.now).span node).from
             → ((meaning self.now).span node).to ≤ result → (meaning self.now).says selection node ≡ false };

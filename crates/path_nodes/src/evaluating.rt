@@ -26,9 +26,9 @@ use crate::kept::push_if;
 use crate::known::Known;
 use crate::leading::{after_condition, after_predicate, after_step, next};
 use crate::marks::{Marks, mark_kept};
-use crate::names::named;
-use crate::naming::named_under;
+use crate::names::{ReadyTest, named};
 use crate::numbers::numbered;
+use crate::offering::Offering;
 use crate::outermost::outermost;
 use crate::walks::{add_marked, with_descendants};
 use crate::{Nodes, TextTest};
@@ -177,8 +177,81 @@ fn chosen_in_order<T: TextTest>(
         + sum_by (price.children_price tree.now.root (T.meaning test.old) (view.step step.now))
         (spec.parents step.now.deep (map (element_of tree.now.root) outer.now)) }
 {
-    let named = named_under(known.alloc, tree, step, outer, test)?;
-    passed(tree, step, number, named, test, known)
+    let name = ReadyTest::of(&step.test);
+    let mut offering = Offering::over(known.alloc, tree, step.deep, outer)?;
+    let mut found = Nodes::new(known.alloc);
+    while let Some(here) = offering.next(tree, step, &name, test)? {
+        let wanted = passes(tree, step, number, here, test, known)?;
+        push_if(wanted, here, &mut found)?;
+    }
+    Ok(found)
+}
+
+/// Whether an element passes the predicates of a step that has no numbers. Those after the first one that it doesn't pass aren't asked.
+#[cycle(evaluate)]
+fn passes<T: TextTest>(
+    tree: &DocTree,
+    step: &Step,
+    number: usize,
+    item: NodeRef,
+    test: &mut T,
+    known: &mut Known,
+) -> Result<bool, Memory>
+    requires no_number { spec.has_number (view.step step.now) ≡ false }
+    requires item { IsElement tree.now.root item }
+    requires asked { OfStep (MayAsk tree.now.root (T.meaning test.old)) (view.step step.now) }
+    requires numbered { StandFrom (in_path known.old.path.now) number (in_step (view.step step.now)) }
+    requires known { AreRight tree.now.root (T.meaning test.old) (in_path known.old.path.now) known.old.truths }
+    ensures truth { IfOk result (λ truth. truth
+        ≡ spec.passes (satisfied tree.now.root (T.meaning test.old)) (elements (plain tree.now.root))
+        (form.predicates (map view.predicate step.now.predicates)) (element_of tree.now.root item)) }
+    ensures meaning { T.meaning test.new ≡ T.meaning test.old }
+    ensures path { known.new.path ≡ known.old.path }
+    ensures known { OnOk result (AreRight tree.now.root (T.meaning test.old) (in_path known.old.path.now) known.new.truths) }
+    ensures cost { T.cost test.new
+        ≤ T.cost test.old
+        + price.predicates_price tree.now.root (T.meaning test.old) (form.predicates (map view.predicate step.now.predicates))
+        (element_of tree.now.root item ∷ []) }
+{
+    let mut first = number;
+    for predicate in step.predicates.as_slice() {
+        let after = after_predicate(first, predicate)?;
+        if !passes_by(tree, predicate, first, item, test, known)? {
+            return Ok(false);
+        }
+        first = after;
+    }
+    Ok(true)
+}
+
+/// Whether an element passes a predicate; numbers aren't asked of one element by itself.
+#[cycle(evaluate)]
+fn passes_by<T: TextTest>(
+    tree: &DocTree,
+    predicate: &Predicate,
+    number: usize,
+    item: NodeRef,
+    test: &mut T,
+    known: &mut Known,
+) -> Result<bool, Memory>
+    requires item { IsElement tree.now.root item }
+    requires asked { OfPredicate (MayAsk tree.now.root (T.meaning test.old)) (view.predicate predicate.now) }
+    requires numbered { StandFrom (in_path known.old.path.now) number (in_predicate (view.predicate predicate.now)) }
+    requires known { AreRight tree.now.root (T.meaning test.old) (in_path known.old.path.now) known.old.truths }
+    ensures truth { IfOk result (λ truth. truth
+        ≡ spec.passes_by (satisfied tree.now.root (T.meaning test.old)) (elements (plain tree.now.root)) (view.predicate predicate.now)
+        (element_of tree.now.root item)) }
+    ensures meaning { T.meaning test.new ≡ T.meaning test.old }
+    ensures path { known.new.path ≡ known.old.path }
+    ensures known { OnOk result (AreRight tree.now.root (T.meaning test.old) (in_path known.old.path.now) known.new.truths) }
+    ensures cost { T.cost test.new
+        ≤ T.cost test.old
+        + price.predicate_price tree.now.root (T.meaning test.old) (view.predicate predicate.now) (element_of tree.now.root item ∷ []) }
+{
+    match predicate {
+        Predicate::Number(_) => Ok(true),
+        Predicate::Holds(condition) => is_true(tree, condition, number, item, test, known),
+    }
 }
 
 /// The elements to whose children a step leads: the contexts or, where it is deep, the outermost ones and all elements below

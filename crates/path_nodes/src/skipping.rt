@@ -11,21 +11,11 @@ use ft_base::Span;
 use ordered_tree::{DocTree, NodeRef};
 use path_grammar::Predicates;
 
-/// How many times as long as the element at which it is asked for a stretch has to be to have been worth it: an answer costs about
-/// as much as a test of an element.
-const ENOUGH: u32 = 3;
-
 /// Positions of words from `from` on and before `to`: predicates are known to keep no element whose words stand there.
 #[derive(Clone, Copy)]
 pub(crate) struct Stretch {
     pub(crate) from: u32,
     pub(crate) to: u32,
-    /// Whether to ask anew after it: not where the answer was that nothing is known
-    asks: bool,
-    /// How many answers skipped little, less half of them for each that skipped much: where many elements are kept, few are worth asking
-    vain: u32,
-    /// How many elements after it to pass before that
-    pause: u32,
 }
 
 impl Stretch {
@@ -33,33 +23,7 @@ impl Stretch {
     pub(crate) fn new() -> Stretch
         ensures { result.to ≡ 0 }
     {
-        Stretch {
-            from: 0,
-            to: 0,
-            asks: true,
-            vain: 0,
-            pause: 0,
-        }
-    }
-
-    /// The stretch that was asked for at an element whose words are these.
-    fn answered(self, span: Span, to: u32) -> Stretch
-        ensures from { result.from ≡ span.from }
-        ensures to { result.to ≡ to }
-    {
-        let words = span.to.saturating_sub(span.from);
-        let vain = if to.saturating_sub(span.from) >= words.saturating_mul(ENOUGH) {
-            self.vain / 2
-        } else {
-            one_more(self.vain)
-        };
-        Stretch {
-            from: span.from,
-            to,
-            asks: to != 0,
-            vain,
-            pause: pause_after(vain),
-        }
+        Stretch { from: 0, to: 0 }
     }
 
     /// Whether all positions of a span are in it.
@@ -71,7 +35,8 @@ impl Stretch {
     }
 }
 
-/// Whether predicates are known to keep no element at or below this one.
+/// Whether predicates are known to keep no element at or below this one: what the test knows by now is asked for, unless the stretch
+/// that it told last has the element's words.
 pub(crate) fn is_skipped<T: TextTest>(
     tree: &DocTree,
     predicates: &Predicates,
@@ -88,17 +53,16 @@ pub(crate) fn is_skipped<T: TextTest>(
     ensures stretch { KeepNothing tree.now.root (T.meaning test.now) stretch.new.from stretch.new.to
         (form.predicates (map view.predicate predicates.now)) }
 {
-    if !stretch.asks {
+    if predicates.is_empty() {
         return false;
     }
     let span = tree.span_of(element);
-    ask_after(tree, predicates, span, test, stretch);
+    ask_beyond(tree, predicates, span, test, stretch);
     stretch.holds(span)
 }
 
-/// Asks anew up to where predicates are known to keep nothing from an element's first word on, where the element stands after the stretch
-/// and isn't one to pass.
-fn ask_after<T: TextTest>(
+/// Asks up to where predicates are known to keep nothing from a span's first position on, where the span isn't in the stretch.
+fn ask_beyond<T: TextTest>(
     tree: &DocTree,
     predicates: &Predicates,
     span: Span,
@@ -111,31 +75,11 @@ fn ask_after<T: TextTest>(
     ensures { KeepNothing tree.now.root (T.meaning test.now) stretch.new.from stretch.new.to
         (form.predicates (map view.predicate predicates.now)) }
 {
-    if span.from < stretch.to {
+    if stretch.holds(span) {
         return;
     }
-    if stretch.pause > 0 {
-        stretch.pause -= 1;
-        return;
-    }
-    let to = skip_predicates(tree, predicates, span.from, test);
-    *stretch = stretch.answered(span, to);
-}
-
-/// One more, up to 8.
-fn one_more(count: u32) -> u32 {
-    if count < 8 { count + 1 } else { count }
-}
-
-/// How many elements to pass before it is asked anew, after so many answers that skipped little: none after the first few, and then
-/// twice as many after each.
-fn pause_after(vain: u32) -> u32 {
-    match vain {
-        0..=3 => 0,
-        4 => 4,
-        5 => 8,
-        6 => 16,
-        7 => 32,
-        _ => 64,
-    }
+    *stretch = Stretch {
+        from: span.from,
+        to: skip_predicates(tree, predicates, span.from, test),
+    };
 }

@@ -8,12 +8,14 @@ mod TermCosts
 mod OpenedLemmas
 mod OpenedViews
 mod SkipLemmas
+mod MissingLemmas
 mod EdgeLemmas
 mod SkipLaw
 mod NeedViews
 mod OpenedWays
 mod MergeKinds
 mod MergeLaw
+mod BothCosts
 mod MergeCosts
 mod OpenedMerges
 mod RisingHits
@@ -24,7 +26,9 @@ mod OpenedNear
 mod OpenedPlaced
 mod KnownTexts
 mod RunLaw
+mod RuledOutLaw
 mod RunSkipLaw
+mod TermReadings
 mod TellingLemmas
 mod ChoosingLemmas
 mod MarkLemmas

@@ -23,7 +23,7 @@ use Rattle.plan_compiler.specs.CheapPlans.{is_single, is_word}
 use Rattle.plan_kinds.specs.steps.JoinedPhrases.{joined_phrases}
 use Rattle.plan_runs.specs.steps.Merges.{phrase_terms, terms_places, test_terms}
 use Rattle.plan_runs.specs.steps.OpenedItems.{opened_item}
-use Rattle.plan_runs.specs.steps.RunCosts.{IsFair, moves_for}
+use Rattle.plan_runs.specs.steps.RunCosts.{IsFair, moves_for, term_count}
 use Rattle.plan_runs.specs.steps.RunShapes.{count_of, cursors_of}
 use Rattle.plan_runs.specs.declared.asked_place.AskedPlace.{AskedPlace}
 use Rattle.plan_compiler.specs.declared.item_matching.ItemTest.{ItemTest}
@@ -95,7 +95,7 @@ module _ (place : AskedPlace) where
   abbrev hits_of_terms : List VersionTerm → ℕ
   hits_of_terms terms = sum_by (λ number. length (hits_at place number)) (numbers_of terms)
 
-  pub moves_fair : IsFair (moves_for place)
+  pub moves_fair : IsFair (λ word. moves_for place word + term_count word)
   moves_fair = record {
     nothing = omega arith;
     together = λ terms others.

@@ -13,11 +13,12 @@ use Rattle.plan_runs.specs.steps.OpenedWords.{IsOpened}
 use Rattle.plan_compiler.specs.PlanMeaning.{plan_form, plan_lists}
 use Rattle.plan_runs.specs.RunMeaning.{run_of}
 use Rattle.plan_runs.specs.steps.CheapShapes.{is_cheap_shape}
-use Rattle.plan_runs.specs.steps.RunCosts.{moves_for, run_cost}
+use Rattle.plan_runs.specs.steps.RunCosts.{moves_for, run_cost, term_count}
 use Rattle.plan_runs.specs.steps.RunShapes.{Shape}
 use Rattle.plan_runs.specs.steps.RunTruth.{run_truth}
 use Rattle.plan_runs.specs.declared.asked_place.AskedPlace.{AskedPlace}
 use Rattle.plan_compiler.specs.declared.plan.Plan.{Plan}
+use Rattle.plan_runs.proofs.BothCosts.{cost_both}
 use Rattle.plan_runs.proofs.MergeCosts.{moves_fair}
 use Rattle.plan_runs.proofs.TermCosts.{item_law}
 
@@ -25,12 +26,13 @@ pub run_law : (version : List Numbered) (asked : AskedSpan) (plan : Plan) (run :
     → run_truth version run asked ≡ sat (lexicon (plan_lists plan)) (plan_form plan) (tokens_in version asked)
 run_law version asked plan run s opened = opened.says asked s ∙ plan.sound.says (tokens_in version asked)
 
--- the moves of a cheap one are within the price of the selection
+-- the moves of a cheap one, with what is read to skip after it, are within the price of the selection
 pub price_law : (plan : Plan) (run : Shape) (place : AskedPlace) (start end : ℕ) → is_cheap (lexicon (plan_lists plan)) (plan_form plan) ≡ true
-    → (is_cheap_shape run ≡ true → end ≤ start + run_cost (moves_for place) run) → IsOpened plan.looks plan.lists.stems place.version.now run plan.root
+    → (is_cheap_shape run ≡ true → end ≤ start + run_cost (moves_for place) run + run_cost term_count run) → IsOpened plan.looks plan.lists.stems place.version.now run plan.root
     → end ≤ start + price_at (run_of (plan_form plan) (plan_lists plan) place.version.now) place.doc.0 place.span
 price_law plan run place start end cheap moves opened =
     let terms = terms_of place.version.now in
-    let least = opened.cost (moves_for place) (compiled_price plan.looks plan.lists.stems terms (text_at place)) (moves_fair place) (item_law place plan.looks plan.lists.stems) in
+    let parts = cost_both (moves_for place) term_count run in
+    let least = opened.cost (λ word. moves_for place word + term_count word) (compiled_price plan.looks plan.lists.stems terms (text_at place)) (moves_fair place) (item_law place plan.looks plan.lists.stems) in
     let most = plan.sound.price terms (text_at place) in
-    omega (arith, moves (opened.cheap (plan.sound.cheap cheap)), least, most)
+    omega (arith, moves (opened.cheap (plan.sound.cheap cheap)), parts, least, most)

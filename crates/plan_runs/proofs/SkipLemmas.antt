@@ -118,6 +118,15 @@ pub one_is_none : {X : Type 0} (f : X → Option ℕ) (xs ys : List X) (i : ℕ)
 one_is_none f xs ys i x last same there is none so_far =
     one_none f xs i x last (subst (λ zs. i < length zs) same there) (is ∙ ap (λ zs. get_or zs i x) same) none so_far
 
+-- a loop that reads one more of several
+pub fold_more : {X : Type 0} (op : Option ℕ → Option ℕ → Option ℕ) (f : X → Option ℕ) (xs ys : List X) (i : ℕ) (x : X) (last new all : Option ℕ) → ys ≡ xs → i < length ys → x ≡ get_or ys i x
+    → new ≡ op last (f x) → fold op last (map f (drop i xs)) ≡ all → fold op new (map f (drop (i + 1) xs)) ≡ all
+fold_more op f xs ys i x last new all same there is then so_far =
+    ap (λ o. fold op o (map f (drop (i + 1) xs))) then
+    ∙ ap (λ y. fold op (op last (f y)) (map f (drop (i + 1) xs))) (is ∙ ap (λ zs. get_or zs i x) same)
+    ∙ sym (ap (λ ys. fold op last (map f ys)) (drop_more xs i x (subst (λ zs. i < length zs) same there)))
+    ∙ so_far
+
 -- ---- words and variants
 
 module _ (doc : ℕ) (part : Span) (to : ℕ) where

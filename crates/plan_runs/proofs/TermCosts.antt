@@ -1,4 +1,5 @@
--- The terms of an item, and the hits that they have in a span, are within the price of the item's test.
+-- The terms of an item, once for their cursors and once for what is read to skip, and the hits that they have in a span, are within the
+-- price of the item's test.
 use Rattle.std.proofs.Common.{◌≡◌, ◌≤◌, ◌<◌, ◌+◌, ◌-◌, ◌++◌, suc, ℕ, Bool, true, false, true≢false, cond, List, [], ◌∷◌, map, filter, length, get_or, take, drop, refl, sym, ap, ◌∙◌, arith, append-nil, take-append-drop}
 use Rattle.std.specs.Prelude.{nat_le, nat_lt}
 use Rattle.std.specs.List.{All, count_by, range_with_len, sum_by}
@@ -25,7 +26,7 @@ use Rattle.plan_compiler.specs.ItemTests.{asks_nothing}
 use Rattle.plan_runs.specs.steps.AskedPlaces.{hits_at, text_at}
 use Rattle.plan_runs.specs.steps.ChosenTerms.{terms_for}
 use Rattle.plan_runs.specs.steps.OpenedItems.{opened_item, word_test}
-use Rattle.plan_runs.specs.steps.RunCosts.{moves_for}
+use Rattle.plan_runs.specs.steps.RunCosts.{moves_for, term_count}
 use Rattle.plan_runs.specs.declared.asked_place.AskedPlace.{AskedPlace}
 use Rattle.plan_compiler.specs.declared.item_matching.ItemTest.{ItemTest}
 use Rattle.plan_compiler.specs.declared.looks.Looks.{Looks}
@@ -206,9 +207,9 @@ module _ (version : List Numbered) (test : List ℕ → Bool) where
 -- ---- the price of a test
 
 pub item_law : (place : AskedPlace) (looks : Looks) (stems : List Stem) (test : ItemTest)
-    → moves_for place (opened_item looks stems place.version.now test) ≤ compiled_price looks stems (terms_of place.version.now) (text_at place) test
+    → moves_for place (opened_item looks stems place.version.now test) + term_count (opened_item looks stems place.version.now test) ≤ compiled_price looks stems (terms_of place.version.now) (text_at place) test
 item_law place looks stems test =
-    elim (asks_nothing test) as (λ b. moves_for place (cond b Terms.Any (Terms.Of (map (version_term version) numbers))) ≤ compiled_price looks stems (terms_of version) text test) [
+    elim (asks_nothing test) as (λ b. moves_for place (cond b Terms.Any (Terms.Of (map (version_term version) numbers))) + term_count (cond b Terms.Any (Terms.Of (map (version_term version) numbers))) ≤ compiled_price looks stems (terms_of version) text test) [
       | true ↦ omega arith
       | false ↦
           let terms = terms_count version passes in

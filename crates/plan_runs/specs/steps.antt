@@ -8,6 +8,7 @@ pub mod RunShapes
 pub mod RunTruth
 pub mod Skips
 pub mod RunSkips
+pub mod RuledOut
 pub mod OpenedItems
 pub mod OpenedOperators
 pub mod OpenedWords

@@ -9,6 +9,7 @@ ghost use Rattle.place_merges.specs.Places.{fits, stands_at};
 ghost use Rattle.spot_merges.specs.Edges as spec;
 
 use crate::asked_place::AskedPlace;
+use crate::reading::seek_in;
 use ft_base::{Span, Steps};
 use index_phrases::WordTerms;
 use spot_merges::{Edge, edge_place};
@@ -104,17 +105,7 @@ fn word_stands<L: Ledger>(
                 from: part.from,
                 to: part.from + 1,
             };
-            count_steps(terms.len(), moves);
-            terms.seek_in(place.doc, only).is_some()
+            seek_in(terms, place.doc, only, moves).is_some()
         }
-    }
-}
-
-/// Counts so many steps.
-fn count_steps<L: Ledger>(count: usize, moves: &mut Steps<L>)
-    ensures { moves.new ≡ moves.old + count }
-{
-    for _step in 0..count {
-        moves.tick();
     }
 }

@@ -36,9 +36,9 @@ pub trait Judge {
         ensures grown { moves.old ≤ moves.new }
         ensures price { is_cheap (lexicon run.old.lists) run.old.form ≡ true → moves.new ≤ moves.old + price_at run.old doc.0 span };
 
-    /// A place up to which the document can be skipped: of no span of it that starts at `from` or after, and ends there or before
-    /// it, does `judge` say that its tokens satisfy the selection of the run. 0 says nothing, and the greatest number says that nothing
-    /// is left in the document. It moves no cursor and takes no memory.
+    /// A place up to which it is known that the document can be skipped: of no span of it that starts at `from` or after, and ends
+    /// there or before it, does `judge` say that its tokens satisfy the selection of the run. 0 says nothing, and the greatest number
+    /// says that nothing is left in the document. It moves no cursor, reads no row of the index and takes no memory.
     fn skip_to(&self, run: &Run<'_>, doc: DocId, from: u32) -> u32
         requires there { has_document doc.0 run.now.version ≡ true }
         ensures none { (span : Span)

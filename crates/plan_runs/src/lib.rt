@@ -33,6 +33,8 @@ mod opening_operators;
 mod opening_placed;
 mod placed_holding;
 mod rarity;
+mod reading;
+mod ruled_out;
 mod run;
 mod run_hits;
 mod run_merge;

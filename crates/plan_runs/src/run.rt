@@ -14,8 +14,8 @@ use crate::choosing::Opening;
 use crate::holding::node_holds;
 use crate::looking_up::look_up;
 use crate::opening::open_node;
+use crate::ruled_out::{RuledOut, skip_from};
 use crate::run_node::RunNode;
-use crate::skipping::skip;
 use ft_base::{DocId, Memory, Span, Steps};
 use index_versions::Version;
 use plan_compiler::Plan;
@@ -30,11 +30,14 @@ pub struct Run<'v> {
     pub(crate) plan: &'v Plan,
     pub(crate) version: &'v Version,
     pub(crate) root: RunNode<'v>,
+    /// What is known of the document that was looked up or tested last
+    pub(crate) ruled_out: RuledOut,
 }
 
 impl<'v> Model for Run<'v> {
     ghost use Rattle.plan_runs.specs.steps.OpenedWords.{IsOpened};
     ghost use Rattle.plan_compiler.specs.PlanMeaning.{plan_form, plan_lists};
+    ghost use Rattle.plan_runs.specs.steps.RuledOut.{HasNone};
     ghost use Rattle.plan_runs.specs.steps.RunCode.{run_code};
     ghost use Rattle.plan_runs.specs.RunMeaning.{RunMeaning, run_of};
     ghost use Rattle.plan_runs.specs.steps.RunShapes.{shape};
@@ -46,7 +49,9 @@ impl<'v> Model for Run<'v> {
     ghost view = { λ inside. run_of (plan_form inside.plan.now) (plan_lists inside.plan.now) inside.version.now };
 
     ghost invariant = { λ inside.
-        IsOpened inside.plan.now.looks inside.plan.now.lists.stems inside.version.now (shape inside.root) inside.plan.now.root };
+        IsOpened inside.plan.now.looks inside.plan.now.lists.stems inside.version.now (shape inside.root) inside.plan.now.root
+        × HasNone (run_of (plan_form inside.plan.now) (plan_lists inside.plan.now) inside.version.now) inside.ruled_out.doc.0 inside.ruled_out.from
+        inside.ruled_out.to };
 }
 
 impl<'v> Run<'v> {
@@ -68,11 +73,13 @@ impl<'v> Run<'v> {
             plan,
             version,
             root,
+            ruled_out: RuledOut::new(),
         })
     }
 
     /// Whether the tokens of the span of the document satisfy the plan's selection. It moves cursors forward, counts each move, and takes
-    /// no memory. The moves of a cheap selection are at most its price at the span.
+    /// no memory. The moves of a cheap selection are at most its price at the span. Where the tokens don't satisfy it, it may look how far
+    /// the words that the selection needs are, and count a move for each term of theirs: no span in between is tested by cursors.
     pub fn test<L: Ledger>(&mut self, doc: DocId, span: Span, moves: &mut Steps<L>) -> bool
         requires there { has_document doc.0 self.old.version ≡ true }
         requires inside { (1 ≤ span.from) × (span.from ≤ span.to) × (span.to ≤ token_count (document_at doc.0 self.old.version) + 1) }
@@ -81,22 +88,35 @@ impl<'v> Run<'v> {
         ensures price { is_cheap (lexicon self.old.lists) self.old.form ≡ true → moves.new ≤ moves.old + price_at self.old doc.0 span }
         ensures grown { moves.old ≤ moves.new }
     {
+        if self.ruled_out.holds(doc, span) {
+            return false;
+        }
         let version = self.version;
         let place = AskedPlace { version, doc, span };
-        node_holds(&place, &mut self.root, moves)
+        if node_holds(&place, &mut self.root, moves) {
+            return true;
+        }
+        if self.ruled_out.pauses() {
+            return false;
+        }
+        let to = skip_from(doc, span.from, &self.root, moves);
+        self.ruled_out = self.ruled_out.answered(doc, span, to);
+        false
     }
 
-    /// Looks the words that the selection needs up in the document, so that `skip_to` finds them kept: who asks much of one document
-    /// looks each of them up there once. After words that are needed and aren't there nothing is looked up.
+    /// Looks the words that the selection needs up in the document's directory of terms, and reads no row: of a document in which one
+    /// that is needed doesn't stand all is ruled out. Who asks much of one document looks each of them up there once. After words that
+    /// are needed and aren't there nothing is looked up.
     pub fn look_up(&mut self, doc: DocId)
         ensures { self.new ≡ self.old }
     {
-        let _may = look_up(doc, &mut self.root);
+        let may = look_up(doc, &mut self.root);
+        self.ruled_out = self.ruled_out.looked_up(doc, may);
     }
 
-    /// A place up to which the document can be skipped: no span of it that starts at `from` or after, and ends there or before
-    /// it, satisfies the plan's selection, since words that it needs stand further on. 0 says nothing, and the greatest number
-    /// says that nothing is left in the document. It moves no cursor and takes no memory.
+    /// A place up to which it is known that the document can be skipped: no span of it that starts at `from` or after, and ends there
+    /// or before it, satisfies the plan's selection, since words that it needs stand further on. 0 says nothing, and the greatest
+    /// number says that nothing is left in the document. It tells what `look_up` and `test` found, and reads nothing.
     pub fn skip_to(&self, doc: DocId, from: u32) -> u32
         requires there { has_document doc.0 self.now.version ≡ true }
         ensures none { (span : Span)
@@ -104,10 +124,6 @@ impl<'v> Run<'v> {
             → from ≤ span.from → span.to ≤ result
             → sat (lexicon self.now.lists) self.now.form (span_tokens span (document_at doc.0 self.now.version)) ≡ false }
     {
-        let part = Span { from, to: u32::MAX };
-        match skip(doc, part, &self.root) {
-            Some(place) => place,
-            None => u32::MAX,
-        }
+        self.ruled_out.skip_to(doc, from)
     }
 }

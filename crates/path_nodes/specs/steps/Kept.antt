@@ -1,9 +1,9 @@
 -- What steps, predicates and conditions say of elements, by what a test says.
-use Rattle.std.specs.Prelude.{ℕ, Bool, true, false, ◌||◌, List, [], ◌∷◌, filter, flat_map, if◌then◌else◌}
+use Rattle.std.specs.Prelude.{ℕ, Bool, true, false, ◌||◌, ◌&&◌, List, [], ◌∷◌, filter, flat_map, if◌then◌else◌}
 use Rattle.ordered_tree.specs.Numbered.{Numbered, plain}
 use Rattle.path_meaning.specs.Elements.{Element, elements, element_children}
 use Rattle.path_grammar.specs.Form.{Step, step, Predicate, number, holds, Predicates, no_predicates, predicate_then, Conditions}
-use Rattle.path_meaning.specs.Meaning.{is_named, filtered, some_true, each_true}
+use Rattle.path_meaning.specs.Meaning.{is_named, is_true, filtered, some_true, each_true}
 use Rattle.path_nodes.specs.steps.Regions.{at_or_below, below}
 use Rattle.path_nodes.specs.Says.{Meaning, satisfied}
 
@@ -31,6 +31,16 @@ some_number (predicate_then p rest) = is_number p || some_number rest
 -- whether one of a step's predicates is
 abbrev pub has_number : Step → Bool
 has_number (step deep test predicates) = some_number predicates
+
+-- whether predicates that are no numbers keep an element, whatever else is in the list
+module _ (sat : ℕ → Element → Bool) (all : List Element) where
+  abbrev pub passes_by : Predicate → Element → Bool
+  passes_by (number k) e = true
+  passes_by (holds condition) e = is_true sat all condition e
+
+  abbrev pub passes : Predicates → Element → Bool
+  passes no_predicates e = true
+  passes (predicate_then p rest) e = passes_by p e && passes rest e
 
 -- what a step keeps of a list
 abbrev pub kept : Numbered → Meaning → Step → List Element → List Element

@@ -1,5 +1,5 @@
 -- Each kind of condition and predicate, one more of each list.
-use Rattle.std.proofs.Common.{◌≡◌, ◌≤◌, ◌+◌, ◌||◌, ℕ, false, not, List, ◌∷◌, [], ◌++◌, map, filter, take, length, get_or, IfOk, refl, sym, ap, ◌∙◌, subst, arith, rules}
+use Rattle.std.proofs.Common.{◌≡◌, ◌≤◌, ◌<◌, ◌+◌, ◌||◌, ℕ, Bool, false, not, List, ◌∷◌, [], ◌++◌, map, filter, flat_map, take, length, get_or, IfNone, IfOk, IfSome, refl, sym, ap, ◌∙◌, subst, arith, rules}
 use Rattle.std.specs.List.{All, AllPairs, Contains, list_any}
 use Rattle.std.proofs.lemmas.List.{take_all, drop_all}
 use Rattle.std.proofs.lemmas.List.Elements.{All-nil, All-cons, All-map, All-weaker, All-get_or}
@@ -18,6 +18,9 @@ use Rattle.path_meaning.specs.Tests.{condition_tests, each_tested, steps_tests}
 use Rattle.path_nodes.specs.Asked.{OfPredicate, OfCondition, MayAsk}
 use Rattle.path_nodes.specs.steps.Kept as spec
 use Rattle.path_nodes.specs.steps.Marks.{is_marked}
+use Rattle.path_nodes.specs.steps.Offered.{to_come}
+use Rattle.path_nodes.specs.steps.RuledOut.{KeepNothing, Suffice}
+use Rattle.path_nodes.specs.steps.Weights.{weights_at}
 use Rattle.path_nodes.specs.steps.Leading.{StandFrom, in_path, in_steps, in_predicate, in_condition}
 use Rattle.path_nodes.specs.Prices as price
 use Rattle.path_nodes.specs.References.{IsElement, element_of}
@@ -30,12 +33,14 @@ use Rattle.path_nodes.proofs.PrefixLemmas.{prefix-itself}
 use Rattle.path_nodes.proofs.LeadingLemmas.{in-step, steps-from, predicates-from, conditions-from, stand-first, stand-next, stand-itself, stand-inside}
 use Rattle.path_nodes.proofs.MemberLemmas.{or-cases, same-offered, same-inside}
 use Rattle.path_nodes.proofs.OfferedLemmas.{in-one-pass, one-pass-price}
+use Rattle.path_nodes.proofs.OfferingLemmas.{cost-here, kept-last, kept-next}
 use Rattle.path_nodes.proofs.OrderLemmas.{one-ordered, stepped-ordered}
 use Rattle.path_nodes.proofs.OutermostLemmas.{same-parents, few-parents, outer-members, outer-once}
 use Rattle.path_nodes.proofs.ListLemmas.{any-more-of, filter-more, more-there, or-nothing}
-use Rattle.path_nodes.proofs.MeaningLemmas.{led-next, filtered-next, decided, undecided, joined-none, emptied}
-use Rattle.path_nodes.proofs.PriceLemmas.{sum-next, price-append, price-none, price-holds, steps-next, predicates-next, conditions-next, step-price}
+use Rattle.path_nodes.proofs.MeaningLemmas.{led-next, filtered-next, passes-next, passes-stop, stays-one, decided, undecided, joined-none, emptied}
+use Rattle.path_nodes.proofs.PriceLemmas.{sum-next, price-append, price-none, price-holds, one-holds, steps-next, predicates-next, conditions-next, step-price}
 use Rattle.path_nodes.proofs.CostLemmas.{cost-next, cost-part, at-price, at-most, both-cost}
+use Rattle.path_nodes.proofs.RulingOutLemmas.{nothing-kept}
 use Rattle.path_nodes.proofs.SpotLemmas.{of_number}
 use Rattle.path_nodes.proofs.WayLemmas.{lead-kept}
 use Rattle.path_nodes.proofs.evaluating.+evaluate.Goals as goal
@@ -281,9 +286,77 @@ led_from-returns-clause-known g t c =
 
 -- ---- chosen_in_order
 
-pub chosen_in_order-named_under-requires-clause-asked : goal.chosen_in_order-named_under-requires-clause-asked
-chosen_in_order-named_under-requires-clause-asked g t c =
-    of-step (MayAsk c.args.tree.now.root (g.T.TextTest.meaning c.args.test.now)) c.args.step.now c.requires.asked
+pub chosen_in_order-next-requires : goal.chosen_in_order-next-requires
+chosen_in_order-next-requires g t c =
+    let root = c.args.tree.now.root in
+    let s = c.args.step.now in
+    let no-number = ap spec.has_number (sym (step-is s)) ∙ c.requires.no_number in
+    let asked = of-step (MayAsk root (g.T.TextTest.meaning c.args.test.now)) s c.requires.asked in
+    record {
+      left = c.loop-found.invariant.left;
+      no_number = no-number;
+      asked = rw c.loop-found.invariant.meaning asked;
+      stretch = rw c.loop-found.invariant.meaning c.loop-found.invariant.stretch;
+    }
+
+pub chosen_in_order-loop-found-init : goal.chosen_in_order-loop-found-init
+chosen_in_order-loop-found-init g t c =
+    let root = c.args.tree.now.root in
+    let m = g.T.TextTest.meaning c.args.test.now in
+    let s = c.args.step.now in
+    let ps = form.predicates (map view.predicate s.predicates) in
+    let all : to_come root s.deep c.in_ok-offering.offering.left.items ≡ flat_map (spec.offered s.deep) (map (element_of root) c.args.outer.now) = c.in_ok-offering.ensures.offers in
+    record {
+      done =
+          ap (λ l. map (element_of root) l ++ meaning.filtered (satisfied root m) (elements (plain root)) ps (filter (λ e. meaning.is_named c.of-name.result e.node) (to_come root s.deep c.in_ok-offering.offering.left.items))) c.new-found.ensures
+          ∙ ap (λ l. meaning.filtered (satisfied root m) (elements (plain root)) ps (filter (λ e. meaning.is_named c.of-name.result e.node) l)) all
+          ∙ ap (λ n. meaning.filtered (satisfied root m) (elements (plain root)) ps (filter (λ e. meaning.is_named n e.node) (flat_map (spec.offered s.deep) (map (element_of root) c.args.outer.now)))) c.of-name.ensures;
+      there = subst (All (IsElement root)) (sym c.new-found.ensures) (All-nil (IsElement root));
+      left = c.in_ok-offering.ensures.there;
+      stretch = subst (λ n. KeepNothing root m c.in_ok-offering.offering.stretch.from n ps) (sym c.in_ok-offering.ensures.stretch) (nothing-kept root m c.in_ok-offering.offering.stretch.from ps);
+      meaning = refl;
+      path = refl;
+      known = c.requires.known;
+      cost =
+          let named = ap (λ n. price.predicates_price root m ps (filter (λ e. meaning.is_named n e.node) (to_come root s.deep c.in_ok-offering.offering.left.items))) c.of-name.ensures in
+          let offers = ap (λ l. price.predicates_price root m ps (filter (λ e. meaning.is_named s.test e.node) l)) all in
+          omega (arith, named, offers);
+    }
+
+pub chosen_in_order-passes-requires : goal.chosen_in_order-passes-requires
+chosen_in_order-passes-requires g t c κs within =
+    (search (rules, the_lemmas), (within, (c.requires.no_number, (subst (λ o. IfSome o (IsElement c.args.tree.now.root)) c.in-Some.is c.in_ok-here.ensures.there, (rw c.loop-found.invariant.meaning c.requires.asked, (rw c.loop-found.invariant.path c.requires.numbered, rw (c.loop-found.invariant.meaning, c.loop-found.invariant.path) c.loop-found.invariant.known))))))
+
+pub chosen_in_order-loop-found-preserved : goal.chosen_in_order-loop-found-preserved
+chosen_in_order-loop-found-preserved g t c =
+    let root = c.args.tree.now.root in
+    let m = g.T.TextTest.meaning c.args.test.now in
+    let s = c.args.step.now in
+    let ps = form.predicates (map view.predicate s.predicates) in
+    let no-number = ap spec.has_number (sym (step-is s)) ∙ c.requires.no_number in
+    let here = c.in-Some.here in
+    let named : Element → Bool = λ e. meaning.is_named c.of-name.result e.node in
+    let rest = filter named (to_come root s.deep c.next.new.self.left.items) in
+    let before = filter named (to_come root s.deep c.loop-found.offering.left.items) in
+    let told = rw c.loop-found.invariant.meaning at c.in_ok-here.ensures.some in
+    let enough : Suffice root m ps (element_of root here ∷ rest) before = subst (λ o. IfSome o (λ r. Suffice root m ps (element_of root r ∷ rest) before)) c.in-Some.is told in
+    let there : IsElement root here = subst (λ o. IfSome o (IsElement root)) c.in-Some.is c.in_ok-here.ensures.there in
+    let truth = rw c.loop-found.invariant.meaning at c.in_ok-wanted.ensures.truth in
+    record {
+      done = kept-next root m ps no-number here rest before enough c.loop-found.found c.push_if.new.nodes c.in_ok-wanted.wanted _ c.in_ok-push_if.ensures truth c.loop-found.invariant.done;
+      there = more-there (IsElement root) c.loop-found.found c.push_if.new.nodes here c.in_ok-wanted.wanted c.in_ok-push_if.ensures there c.loop-found.invariant.there;
+      left = c.in_ok-here.ensures.left;
+      stretch = rw c.loop-found.invariant.meaning at c.in_ok-here.ensures.stretch;
+      meaning = c.passes.ensures.meaning ∙ c.loop-found.invariant.meaning;
+      path = c.passes.ensures.path ∙ c.loop-found.invariant.path;
+      known = rw (c.loop-found.invariant.meaning, c.loop-found.invariant.path) at c.in_ok-wanted.ensures.known;
+      cost = cost-here root m ps no-number here rest before enough _ _ _ (rw c.loop-found.invariant.meaning at c.passes.ensures.cost) c.loop-found.invariant.cost;
+    }
+
+pub chosen_in_order-loop-found-smaller : goal.chosen_in_order-loop-found-smaller
+chosen_in_order-loop-found-smaller g t c =
+    let root = c.args.tree.now.root in
+    subst (λ o. IfSome o (λ r. weights_at root c.next.new.self.left.items < weights_at root c.loop-found.offering.left.items)) c.in-Some.is c.in_ok-here.ensures.fewer
 
 pub chosen_in_order-returns-clause-elements : goal.chosen_in_order-returns-clause-elements
 chosen_in_order-returns-clause-elements g t c =
@@ -291,12 +364,15 @@ chosen_in_order-returns-clause-elements g t c =
     let m = g.T.TextTest.meaning c.args.test.now in
     let s = c.args.step.now in
     let ps = form.predicates (map view.predicate s.predicates) in
+    let no-number = ap spec.has_number (sym (step-is s)) ∙ c.requires.no_number in
     let there = All-map (Contains (elements (plain root))) (element_of root) c.args.outer.now
     (All-weaker (IsElement root) (λ r. Contains (elements (plain root)) (element_of root r)) (of-document root) c.args.outer.now c.requires.outer) in
-    subst (λ es. IfOk c.passed.result (λ found. map (element_of root) found ≡ es))
-    (c.in_ok-named.ensures.elements.kept
-    ∙ in-one-pass root m (view.step s) s.deep s.test ps (step-is s) c.requires.no_number (map (element_of root) c.args.outer.now) c.requires.apart there)
-    c.passed.ensures.elements
+    let named : Element → Bool = λ e. meaning.is_named c.of-name.result e.node in
+    let before = filter named (to_come root s.deep c.loop-found.offering.left.items) in
+    let told = rw c.loop-found.invariant.meaning at c.in_ok-here.ensures.none in
+    let nothing : Suffice root m ps [] before = subst (λ o. IfNone o (Suffice root m ps [] before)) c.in_default.is told in
+    kept-last root m ps no-number before nothing c.loop-found.found _ c.loop-found.invariant.done
+    ∙ in-one-pass root m (view.step s) s.deep s.test ps (step-is s) c.requires.no_number (map (element_of root) c.args.outer.now) c.requires.apart there
 
 pub chosen_in_order-returns-clause-cost : goal.chosen_in_order-returns-clause-cost
 chosen_in_order-returns-clause-cost g t c =
@@ -304,8 +380,146 @@ chosen_in_order-returns-clause-cost g t c =
     let m = g.T.TextTest.meaning c.args.test.now in
     let s = c.args.step.now in
     let ps = form.predicates (map view.predicate s.predicates) in
-    at-most _ _ _ _ _ c.passed.ensures.cost c.in_ok-named.ensures.elements.price
-    (one-pass-price root m (view.step s) s.deep s.test ps (step-is s) c.requires.no_number (map (element_of root) c.args.outer.now))
+    let all = one-pass-price root m (view.step s) s.deep s.test ps (step-is s) c.requires.no_number (map (element_of root) c.args.outer.now) in
+    omega (arith, c.loop-found.invariant.cost, all)
+
+pub chosen_in_order-returns-in_err-here-clause-cost : goal.chosen_in_order-returns-in_err-here-clause-cost
+chosen_in_order-returns-in_err-here-clause-cost g t c =
+    let root = c.args.tree.now.root in
+    let m = g.T.TextTest.meaning c.args.test.now in
+    let s = c.args.step.now in
+    let ps = form.predicates (map view.predicate s.predicates) in
+    let all = one-pass-price root m (view.step s) s.deep s.test ps (step-is s) c.requires.no_number (map (element_of root) c.args.outer.now) in
+    omega (arith, c.loop-found.invariant.cost, all)
+
+pub chosen_in_order-returns-in_err-wanted-clause-cost : goal.chosen_in_order-returns-in_err-wanted-clause-cost
+chosen_in_order-returns-in_err-wanted-clause-cost g t c =
+    let root = c.args.tree.now.root in
+    let m = g.T.TextTest.meaning c.args.test.now in
+    let s = c.args.step.now in
+    let ps = form.predicates (map view.predicate s.predicates) in
+    let all = one-pass-price root m (view.step s) s.deep s.test ps (step-is s) c.requires.no_number (map (element_of root) c.args.outer.now) in
+    let no-number = ap spec.has_number (sym (step-is s)) ∙ c.requires.no_number in
+    let here = c.in-Some.here in
+    let named : Element → Bool = λ e. meaning.is_named c.of-name.result e.node in
+    let rest = filter named (to_come root s.deep c.next.new.self.left.items) in
+    let before = filter named (to_come root s.deep c.loop-found.offering.left.items) in
+    let told = rw c.loop-found.invariant.meaning at c.in_ok-here.ensures.some in
+    let enough : Suffice root m ps (element_of root here ∷ rest) before = subst (λ o. IfSome o (λ r. Suffice root m ps (element_of root r ∷ rest) before)) c.in-Some.is told in
+    let spent = cost-here root m ps no-number here rest before enough _ _ _ (rw c.loop-found.invariant.meaning at c.passes.ensures.cost) c.loop-found.invariant.cost in
+    omega (arith, spent, all)
+
+pub chosen_in_order-returns-in_err-push_if-clause-cost : goal.chosen_in_order-returns-in_err-push_if-clause-cost
+chosen_in_order-returns-in_err-push_if-clause-cost g t c =
+    let root = c.args.tree.now.root in
+    let m = g.T.TextTest.meaning c.args.test.now in
+    let s = c.args.step.now in
+    let ps = form.predicates (map view.predicate s.predicates) in
+    let all = one-pass-price root m (view.step s) s.deep s.test ps (step-is s) c.requires.no_number (map (element_of root) c.args.outer.now) in
+    let no-number = ap spec.has_number (sym (step-is s)) ∙ c.requires.no_number in
+    let here = c.in-Some.here in
+    let named : Element → Bool = λ e. meaning.is_named c.of-name.result e.node in
+    let rest = filter named (to_come root s.deep c.next.new.self.left.items) in
+    let before = filter named (to_come root s.deep c.loop-found.offering.left.items) in
+    let told = rw c.loop-found.invariant.meaning at c.in_ok-here.ensures.some in
+    let enough : Suffice root m ps (element_of root here ∷ rest) before = subst (λ o. IfSome o (λ r. Suffice root m ps (element_of root r ∷ rest) before)) c.in-Some.is told in
+    let spent = cost-here root m ps no-number here rest before enough _ _ _ (rw c.loop-found.invariant.meaning at c.passes.ensures.cost) c.loop-found.invariant.cost in
+    omega (arith, spent, all)
+
+-- ---- passes
+
+pub passes-passes_by-requires : goal.passes-passes_by-requires
+passes-passes_by-requires g t c κs within =
+    let P = MayAsk c.args.tree.now.root (g.T.TextTest.meaning c.args.test.now) in
+    let asked = rw (← c.as_slice-predicate-items.ensures) at (of-step P c.args.step.now c.requires.asked) in
+    let items = c.as_slice-predicate-items.result.now in
+    let i = c.loop-predicate.predicate-index in
+    let one = nth-predicate P items i c.predicate-item.result c.loop-predicate-test.true asked in
+    let first = stand-first _ _ _ (predicates-from items i c.predicate-item.result c.loop-predicate-test.true) (in_path c.args.known.now.path.now) c.loop-predicate.first c.loop-predicate.invariant.numbered in
+    (search (rules, the_lemmas), (within, (c.requires.item, (rw (c.loop-predicate.invariant.meaning, c.predicate-item.is) one, (rw (c.loop-predicate.invariant.path, c.predicate-item.is) first, rw (c.loop-predicate.invariant.meaning, c.loop-predicate.invariant.path) c.loop-predicate.invariant.known)))))
+
+pub passes-loop-predicate-init : goal.passes-loop-predicate-init
+passes-loop-predicate-init g t c =
+    let numbered = subst (StandFrom (in_path c.args.known.now.path.now) c.args.number) (in-step c.args.step.now) c.requires.numbered in
+    record {
+      left = rw c.as_slice-predicate-items.ensures refl;
+      meaning = refl;
+      path = refl;
+      numbered = rw c.as_slice-predicate-items.ensures numbered;
+      known = c.requires.known;
+      cost = rw c.as_slice-predicate-items.ensures (omega arith);
+    }
+
+pub passes-loop-predicate-preserved : goal.passes-loop-predicate-preserved
+passes-loop-predicate-preserved g t c =
+    let root = c.args.tree.now.root in
+    let m = g.T.TextTest.meaning c.args.test.now in
+    let items = c.as_slice-predicate-items.result.now in
+    let i = c.loop-predicate.predicate-index in
+    let d = c.predicate-item.result in
+    let e = element_of root c.args.item in
+    let within = c.loop-predicate-test.true in
+    let says = rw (c.loop-predicate.invariant.meaning, c.predicate-item.is) at c.in_ok-passes_by.ensures.truth in
+    let is = sym says ∙ c.if-not-branch.false in
+    let no-number = rw (← c.as_slice-predicate-items.ensures) at (ap spec.has_number (sym (step-is c.args.step.now)) ∙ c.requires.no_number) in
+    record {
+      left = passes-next (satisfied root m) (elements (plain root)) items i d within e is ∙ c.loop-predicate.invariant.left;
+      meaning = c.passes_by.ensures.meaning ∙ c.loop-predicate.invariant.meaning;
+      path = c.passes_by.ensures.path ∙ c.loop-predicate.invariant.path;
+      numbered = stand-next _ _ _ (predicates-from items i d within) _ _ c.loop-predicate.invariant.numbered _ (rw c.predicate-item.is at c.in_ok-after.ensures);
+      known = rw (c.loop-predicate.invariant.meaning, c.loop-predicate.invariant.path) at c.in_ok-passes_by.ensures.known;
+      cost = cost-next _ _ _ _ _ _ (rw (c.loop-predicate.invariant.meaning, c.predicate-item.is) at c.passes_by.ensures.cost) c.loop-predicate.invariant.cost
+          (predicates-next root m items i d within (e ∷ []) (e ∷ []) (stays-one (satisfied root m) (elements (plain root)) items i d within e no-number is));
+    }
+
+pub passes-returns-then-not-branch-clause-truth : goal.passes-returns-then-not-branch-clause-truth
+passes-returns-then-not-branch-clause-truth g t c =
+    let root = c.args.tree.now.root in
+    let says = rw (c.loop-predicate.invariant.meaning, c.predicate-item.is) at c.in_ok-passes_by.ensures.truth in
+    passes-stop (satisfied root (g.T.TextTest.meaning c.args.test.now)) (elements (plain root)) c.as_slice-predicate-items.result.now c.loop-predicate.predicate-index c.predicate-item.result c.loop-predicate-test.true
+    (element_of root c.args.item) (sym says ∙ c.if-not-branch.true)
+    ∙ c.loop-predicate.invariant.left
+
+pub passes-returns-then-not-branch-clause-known : goal.passes-returns-then-not-branch-clause-known
+passes-returns-then-not-branch-clause-known g t c = rw (c.loop-predicate.invariant.meaning, c.loop-predicate.invariant.path) at c.in_ok-passes_by.ensures.known
+
+pub passes-returns-then-not-branch-clause-cost : goal.passes-returns-then-not-branch-clause-cost
+passes-returns-then-not-branch-clause-cost g t c =
+    cost-part _ _ _ _ _ _ (rw (c.loop-predicate.invariant.meaning, c.predicate-item.is) at c.passes_by.ensures.cost) c.loop-predicate.invariant.cost
+    (predicates-next c.args.tree.now.root (g.T.TextTest.meaning c.args.test.now) c.as_slice-predicate-items.result.now c.loop-predicate.predicate-index c.predicate-item.result c.loop-predicate-test.true
+    (element_of c.args.tree.now.root c.args.item ∷ []) _ refl)
+
+pub passes-returns-in_err-passes_by-clause-cost : goal.passes-returns-in_err-passes_by-clause-cost
+passes-returns-in_err-passes_by-clause-cost g t c =
+    cost-part _ _ _ _ _ _ (rw (c.loop-predicate.invariant.meaning, c.predicate-item.is) at c.passes_by.ensures.cost) c.loop-predicate.invariant.cost
+    (predicates-next c.args.tree.now.root (g.T.TextTest.meaning c.args.test.now) c.as_slice-predicate-items.result.now c.loop-predicate.predicate-index c.predicate-item.result c.loop-predicate-test.true
+    (element_of c.args.tree.now.root c.args.item ∷ []) _ refl)
+
+pub passes-returns-clause-truth : goal.passes-returns-clause-truth
+passes-returns-clause-truth g t c =
+    let items = c.as_slice-predicate-items.result.now in
+    let past : length items ≤ c.loop-predicate.predicate-index = omega (arith, c.loop-predicate-test.false) in
+    rw (drop_all c.loop-predicate.predicate-index items past) at c.loop-predicate.invariant.left
+
+-- ---- passes_by
+
+pub passes_by-is_true-requires : goal.passes_by-is_true-requires
+unfolding OfPredicate in_predicate
+passes_by-is_true-requires g t c κs within = (search (rules, the_lemmas), (within, (c.requires.item, (rw (c.in-Holds.is, view_holds) at c.requires.asked, (rw (c.in-Holds.is, view_holds) at c.requires.numbered, c.requires.known)))))
+
+pub passes_by-returns-in-Number-clause-truth : goal.passes_by-returns-in-Number-clause-truth
+passes_by-returns-in-Number-clause-truth g t c = rw (c.in-Number.is, view_number) refl
+
+pub passes_by-returns-in-Holds : goal.passes_by-returns-in-Holds
+passes_by-returns-in-Holds g t c =
+    let own_price = one-holds c.args.tree.now.root (g.T.TextTest.meaning c.args.test.now) (view.condition c.in-Holds.condition) (element_of c.args.tree.now.root c.args.item) in
+    rw (c.in-Holds.is, view_holds) (record {
+      truth = c.is_true.ensures.truth;
+      meaning = c.is_true.ensures.meaning;
+      path = c.is_true.ensures.path;
+      known = c.is_true.ensures.known;
+      cost = at-price _ _ _ _ c.is_true.ensures.cost own_price;
+    })
 
 -- ---- stepped
 

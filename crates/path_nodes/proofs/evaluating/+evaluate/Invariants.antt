@@ -1,17 +1,21 @@
 -- What is done, then what is left, is all; the test means what it meant; what is known is right; what was spent, and the price
 -- of the rest, are no more than the price of all.
-use Rattle.std.proofs.Common.{◌≡◌, ◌≤◌, ◌+◌, All, AllPairs, map, filter, take, drop}
+use Rattle.std.proofs.Common.{◌≡◌, ◌≤◌, ◌+◌, ◌∷◌, [], ◌++◌, All, AllPairs, map, filter, flat_map, take, drop}
 use Rattle.std.specs.Prelude.{sum_by}
 use Rattle.ordered_tree.specs.Numbered.{plain}
 use Rattle.ft_base.specs.declared.ids.NodeRef.{NodeRef}
 use Rattle.path_meaning.specs.Elements.{elements, is_in}
 use Rattle.path_grammar.specs.Form as form
 use Rattle.path_meaning.specs.Meaning as meaning
+use Rattle.path_meaning.specs.Meaning.{is_named}
 use Rattle.path_grammar.specs.View as view
 use Rattle.path_meaning.specs.Order.{Before}
 use Rattle.path_nodes.specs.steps.Known.{AreRight}
 use Rattle.path_nodes.specs.steps.Leading.{StandFrom, in_path, in_steps, in_predicates, in_conditions}
-use Rattle.path_nodes.specs.steps.Kept.{kept_children, joined}
+use Rattle.path_nodes.specs.steps.Kept.{kept_children, joined, offered, passes}
+use Rattle.path_nodes.specs.steps.Offered.{IsStop, to_come}
+use Rattle.path_nodes.specs.steps.RuledOut.{KeepNothing}
+use Rattle.path_nodes.specs.steps.Weights.{weights_at}
 use Rattle.path_nodes.specs.steps.Marks.{is_marked}
 use Rattle.path_nodes.specs.Prices as price
 use Rattle.path_nodes.specs.References.{IsElement, element_of}
@@ -82,4 +86,34 @@ invariant-joined-loop-condition g l = record {
   known : AreRight l.tree.root (g.T.TextTest.meaning l.fn.test) (in_path l.fn.known.path.now) l.known.truths;
   cost : g.T.TextTest.cost l.test + price.conditions_price l.tree.root (g.T.TextTest.meaning l.fn.test) (form.conditions (map view.condition (drop l.condition-index l.condition-items))) (element_of l.tree.root l.item)
       ≤ g.T.TextTest.cost l.fn.test + price.conditions_price l.tree.root (g.T.TextTest.meaning l.fn.test) (form.conditions (map view.condition l.fn.conditions)) (element_of l.tree.root l.item);
+}
+
+abbrev pub invariant-chosen_in_order-loop-found : goal.invariant-chosen_in_order-loop-found
+invariant-chosen_in_order-loop-found g l = record {
+  done : map (element_of l.tree.root) l.found
+      ++ meaning.filtered (satisfied l.tree.root (g.T.TextTest.meaning l.fn.test)) (elements (plain l.tree.root)) (form.predicates (map view.predicate l.step.predicates)) (filter (λ e. is_named l.name e.node) (to_come l.tree.root l.step.deep l.offering.left.items))
+      ≡ meaning.filtered (satisfied l.tree.root (g.T.TextTest.meaning l.fn.test)) (elements (plain l.tree.root)) (form.predicates (map view.predicate l.step.predicates)) (filter (λ e. is_named l.step.test e.node) (flat_map (offered l.step.deep) (map (element_of l.tree.root) l.fn.outer)));
+  there : All (IsElement l.tree.root) l.found;
+  left : All (IsStop l.tree.root) l.offering.left.items;
+  stretch : KeepNothing l.tree.root (g.T.TextTest.meaning l.fn.test) l.offering.stretch.from l.offering.stretch.to (form.predicates (map view.predicate l.step.predicates));
+  meaning : g.T.TextTest.meaning l.test ≡ g.T.TextTest.meaning l.fn.test;
+  path : l.known.path ≡ l.fn.known.path;
+  known : AreRight l.tree.root (g.T.TextTest.meaning l.fn.test) (in_path l.fn.known.path.now) l.known.truths;
+  cost : g.T.TextTest.cost l.test + price.predicates_price l.tree.root (g.T.TextTest.meaning l.fn.test) (form.predicates (map view.predicate l.step.predicates)) (filter (λ e. is_named l.name e.node) (to_come l.tree.root l.step.deep l.offering.left.items))
+      ≤ g.T.TextTest.cost l.fn.test + price.predicates_price l.tree.root (g.T.TextTest.meaning l.fn.test) (form.predicates (map view.predicate l.step.predicates)) (filter (λ e. is_named l.step.test e.node) (flat_map (offered l.step.deep) (map (element_of l.tree.root) l.fn.outer)));
+}
+
+abbrev pub decreases-chosen_in_order-loop-found : goal.decreases-chosen_in_order-loop-found
+decreases-chosen_in_order-loop-found g l = weights_at l.tree.root l.offering.left.items
+
+abbrev pub invariant-passes-loop-predicate : goal.invariant-passes-loop-predicate
+invariant-passes-loop-predicate g l = record {
+  left : passes (satisfied l.tree.root (g.T.TextTest.meaning l.fn.test)) (elements (plain l.tree.root)) (form.predicates (map view.predicate (drop l.predicate-index l.predicate-items))) (element_of l.tree.root l.item)
+      ≡ passes (satisfied l.tree.root (g.T.TextTest.meaning l.fn.test)) (elements (plain l.tree.root)) (form.predicates (map view.predicate l.fn.step.predicates)) (element_of l.tree.root l.item);
+  meaning : g.T.TextTest.meaning l.test ≡ g.T.TextTest.meaning l.fn.test;
+  path : l.known.path ≡ l.fn.known.path;
+  numbered : StandFrom (in_path l.fn.known.path.now) l.first (in_predicates (form.predicates (map view.predicate (drop l.predicate-index l.predicate-items))));
+  known : AreRight l.tree.root (g.T.TextTest.meaning l.fn.test) (in_path l.fn.known.path.now) l.known.truths;
+  cost : g.T.TextTest.cost l.test + price.predicates_price l.tree.root (g.T.TextTest.meaning l.fn.test) (form.predicates (map view.predicate (drop l.predicate-index l.predicate-items))) (element_of l.tree.root l.item ∷ [])
+      ≤ g.T.TextTest.cost l.fn.test + price.predicates_price l.tree.root (g.T.TextTest.meaning l.fn.test) (form.predicates (map view.predicate l.fn.step.predicates)) (element_of l.tree.root l.item ∷ []);
 }

@@ -12,4 +12,4 @@ span_of-span-requires g c = element_there c.args.tree.now.root c.args.element c.
 pub returns-clause-kept : goal.returns-clause-kept
 returns-clause-kept g c = λ held.
     none-under c.args.tree.now.root (g.T.TextTest.meaning c.args.test.now) (form.predicates (map predicate c.args.predicates.now)) c.args.element c.requires.element
-    c.ask_after.new.stretch.from c.ask_after.new.stretch.to c.span_of-span.result c.span_of-span.ensures.positions (c.holds.ensures.after held) (c.holds.ensures.ends_before held) c.ask_after.ensures
+    c.ask_beyond.new.stretch.from c.ask_beyond.new.stretch.to c.span_of-span.result c.span_of-span.ensures.positions (c.holds.ensures.after held) (c.holds.ensures.ends_before held) c.ask_beyond.ensures

@@ -2,7 +2,7 @@
 use Rattle.std.proofs.Common.{◌≡◌, ◌∷◌, ◌++◌, All, flat_map, map, take}
 use Rattle.path_nodes.specs.References.{IsElement, element_of}
 use Rattle.path_nodes.specs.steps.Regions.{at_or_below}
-use Rattle.path_nodes.proofs.RegionLemmas.{weight}
+use Rattle.path_nodes.specs.steps.Weights.{weight}
 use Rattle.path_nodes.proofs.walks.+add_elements.Given as goal
 
 abbrev pub decreases-add_elements : goal.decreases-add_elements

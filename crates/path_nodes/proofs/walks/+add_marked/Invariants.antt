@@ -6,7 +6,7 @@ use Rattle.path_nodes.specs.steps.Marks.{is_marked}
 use Rattle.path_nodes.specs.References.{IsElement, element_of}
 use Rattle.path_nodes.specs.steps.Regions.{at_or_below}
 use Rattle.path_nodes.specs.steps.Ways.{LeadTo}
-use Rattle.path_nodes.proofs.RegionLemmas.{weight}
+use Rattle.path_nodes.specs.steps.Weights.{weight}
 use Rattle.path_nodes.proofs.walks.+add_marked.Given as goal
 
 abbrev pub decreases-add_marked : goal.decreases-add_marked

@@ -8,14 +8,14 @@ use Rattle.plan_runs.specs.steps.RunSkips.{placed_skip}
 use Rattle.plan_runs.specs.steps.Skips.{variant_skip}
 use Rattle.plan_runs.proofs.skipping.placed_skip.Goals as goal
 
-pub returns-in-AtEdge : goal.returns-in-AtEdge
-returns-in-AtEdge c =
-    c.variants_skip.ensures
+pub returns-in-AtEdge-clause-says : goal.returns-in-AtEdge-clause-says
+returns-in-AtEdge-clause-says g c =
+    c.variants_skip.ensures.says
     ∙ sym (ap soonest (map-map (variant_skip c.args.doc.0 c.args.part) variant_words c.in-AtEdge.phrase.variants.items))
     ∙ sym (ap (λ placed. placed_skip c.args.doc.0 c.args.part (placed_shape placed)) c.in-AtEdge.is)
 
-pub returns-in-Apart : goal.returns-in-Apart
-returns-in-Apart c =
-    c.variants_skip-in-Apart.ensures
+pub returns-in-Apart-clause-says : goal.returns-in-Apart-clause-says
+returns-in-Apart-clause-says g c =
+    c.variants_skip-in-Apart.ensures.says
     ∙ sym (ap soonest (map-map (variant_skip c.args.doc.0 c.args.part) variant_words c.in-Apart.phrases.left.terms.items))
     ∙ sym (ap (λ placed. placed_skip c.args.doc.0 c.args.part (placed_shape placed)) c.in-Apart.is)

@@ -1,6 +1,6 @@
 -- So many steps were counted.
 use Rattle.std.proofs.Common.{◌≡◌, ◌+◌}
-use Rattle.plan_runs.proofs.edge_holding.count_steps.Given as goal
+use Rattle.plan_runs.proofs.reading.count_steps.Given as goal
 
 abbrev pub invariant-loop-step : goal.invariant-loop-step
 invariant-loop-step g l = l.moves ≡ l.fn.moves + l._step

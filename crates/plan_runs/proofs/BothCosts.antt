@@ -1,0 +1,39 @@
+-- Two costs of the words of a run's tree together are the cost of both.
+use Rattle.std.proofs.Common.{◌≡◌, ◌+◌, ◌∙◌, ℕ, List, refl, arith}
+use Rattle.std.specs.List.{sum_by}
+use Rattle.index_phrases.specs.declared.word_terms.WordTerms.{WordTerms}
+use Rattle.index_phrases.specs.declared.word_terms.WordTerms.TheVariants as Terms
+use Rattle.plan_runs.specs.steps.RunCosts.{group_cost, phrase_cost, run_cost, run_costs}
+use Rattle.plan_runs.specs.steps.RunShapes.{GroupShape, Shape, Shapes, none, more, words, any_of, all_of, not_of, by_ways, by_near, by_hits, by_merge, by_spots}
+use Rattle.plan_runs.proofs.SumLemmas.{sum_of_two}
+
+module _ (a b : WordTerms → ℕ) where
+  abbrev both : WordTerms → ℕ
+  both word = a word + b word
+
+  group_both : (group : GroupShape) → group_cost both group ≡ group_cost a group + group_cost b group
+  group_both group = (λ i. sum_by (λ ws. sum_of_two a b ws i) group.terms) ∙ sum_of_two (sum_by a) (sum_by b) group.terms
+
+  phrase_both : (phrase : List GroupShape) → phrase_cost both phrase ≡ phrase_cost a phrase + phrase_cost b phrase
+  phrase_both phrase = (λ i. sum_by (λ group. group_both group i) phrase) ∙ sum_of_two (group_cost a) (group_cost b) phrase
+
+  mutual
+    unfolding run_cost run_costs
+
+    pub cost_both : (run : Shape) → run_cost both run ≡ run_cost a run + run_cost b run
+    cost_both (words run) = (λ i. sum_by (λ phrase. phrase_both phrase i) run.phrases) ∙ sum_of_two (phrase_cost a) (phrase_cost b) run.phrases
+    cost_both (any_of parts) = costs_both parts
+    cost_both (all_of parts) = costs_both parts
+    cost_both (not_of part) = cost_both part
+    cost_both (by_ways run) = refl
+    cost_both (by_near run) = refl
+    cost_both (by_hits run) = refl
+    cost_both (by_merge merge) = sum_of_two (λ terms. a (Terms.Of terms)) (λ terms. b (Terms.Of terms)) merge.words
+    cost_both (by_spots run) = refl
+
+    costs_both : (parts : Shapes) → run_costs both parts ≡ run_costs a parts + run_costs b parts
+    costs_both none = refl
+    costs_both (more part rest) =
+        let first = cost_both part in
+        let others = costs_both rest in
+        omega (arith, first, others)
