@@ -43,7 +43,7 @@ use Rattle.session_state.specs.steps.Chosen.{planned_places, prices_through, Are
 use Rattle.session_state.proofs.PathLemmas.{planned-as}
 
 -- a sum over the documents through which a path leads is one over the documents of its root
-through : (root : PathRoot) (f : Named → ℕ) (ds : List Named) → sum_by (λ d. cond (leads_through root d.name) (f d) 0) ds ≡ sum_by f (documents root ds)
+pub through : (root : PathRoot) (f : Named → ℕ) (ds : List Named) → sum_by (λ d. cond (leads_through root d.name) (f d) 0) ds ≡ sum_by f (documents root ds)
 through Collection f ds = refl
 through (Doc name) f [] = refl
 through (Doc name) f (d ∷ ds) =

@@ -25,7 +25,7 @@ use Rattle.session_state.proofs.PathLemmas.{all-found}
 
 -- the state with what is prepared after a command
 abbrev pub with_prepared_in : State → Preparation → State
-with_prepared_in state q = record { documents = state.documents; abbreviations = state.abbreviations; lists = q.lists; marks = state.marks; kept = q.kept }
+with_prepared_in state q = record { documents = state.documents; abbreviations = state.abbreviations; lists = q.lists; marks = state.marks; watches = state.watches; kept = q.kept }
 
 abbrev pub replied : State → Reply → State × Reply
 replied state reply = (state, reply)

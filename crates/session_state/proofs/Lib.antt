@@ -1,5 +1,6 @@
 pub mod ChosenLemmas
 pub mod EditLemmas
+pub mod KnownLemmas
 pub mod MarkLemmas
 pub mod NamedLemmas
 pub mod PathLemmas
@@ -7,5 +8,8 @@ pub mod QueryLemmas
 pub mod RefusedLemmas
 pub mod SelectionNumbers
 pub mod SelectionTestLemmas
+pub mod StandingLemmas
 pub mod StateLemmas
 pub mod TextLemmas
+pub mod WatchLemmas
+pub mod WatchingLemmas

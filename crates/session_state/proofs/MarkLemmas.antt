@@ -20,14 +20,14 @@ use Rattle.session_state.specs.State.{Mark}
 abbrev pub Entry : Type 0
 Entry = List ℕ × Indexed
 
-abbrev pub with_reply : List Mark → Reply → List Mark × Reply
-with_reply marks reply = (marks, reply)
+abbrev pub with_reply : {X : Type 0} → X → Reply → X × Reply
+with_reply held reply = (held, reply)
 
--- what is answered where the marks, and the reply, are these
-pub answered : (result : Result Reply Memory) (new marks : List Mark) (reply : Reply) (target : List Mark × Reply) → OnOk result (new ≡ marks)
-    → IfOk result (λ r. r ≡ reply) → target ≡ (marks, reply) → IfOk result (λ r. with_reply new r ≡ target)
-answered (Ok r) new marks reply target same is meant = ap (λ ms. with_reply ms r) same ∙ (ap (with_reply marks) is ∙ sym meant)
-answered (Err e) new marks reply target same is meant = tt
+-- what is answered where what is held, and the reply, are these
+pub answered : {X : Type 0} (result : Result Reply Memory) (new held : X) (reply : Reply) (target : X × Reply) → OnOk result (new ≡ held)
+    → IfOk result (λ r. r ≡ reply) → target ≡ (held, reply) → IfOk result (λ r. with_reply new r ≡ target)
+answered (Ok r) new held reply target same is meant = ap (λ h. with_reply h r) same ∙ (ap (with_reply held) is ∙ sym meant)
+answered (Err e) new held reply target same is meant = tt
 
 -- one more entry is one more mark
 pub marks-more : (result : Result Reply Memory) (old new : List Entry) (e : Entry) → OnOk result (new ≡ old ++ e ∷ []) → OnOk result (marks_of new ≡ marks_of old ++ to_mark e ∷ [])

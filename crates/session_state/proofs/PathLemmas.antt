@@ -156,7 +156,7 @@ pub prices-one : (says : Judgement) (abbreviations : List (List ℕ)) (path : Pl
 prices-one says abbreviations path runs d = omega (arith, sum_by-cons (λ (x : Named). planned_price says abbreviations path runs x.root) d [])
 
 -- what the runs of plans cost, their selections cost
-priced-as : (lists : NamedLists) (version : List indexed.Numbered) (p : PathForm) (plans : List PlanOf) → map meant plans ≡ map (under lists) (selections_of p)
+pub priced-as : (lists : NamedLists) (version : List indexed.Numbered) (p : PathForm) (plans : List PlanOf) → map meant plans ≡ map (under lists) (selections_of p)
     → map run_price (map (run_over version) plans) ≡ selection_prices lists version p
 priced-as lists version p plans same =
     let cost : NamedLists × Form → List (List ℕ) → ℕ = λ m text. price (lexicon m.0) m.1 version text in

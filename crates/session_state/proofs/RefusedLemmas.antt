@@ -38,8 +38,11 @@ use Rattle.session_state.specs.Held.{Held}
 use Rattle.session_state.specs.KeptTexts.{keep_plans}
 use Rattle.session_state.specs.Marks.{at_mark, has_mark, mark_named, mark_put, mark_taken, with_marks, without_mark}
 use Rattle.session_state.specs.Paths.{answer, missing_refusal}
-use Rattle.session_state.specs.State.{Mark, State, with_documents}
+use Rattle.standing_queries.specs.Answers.{Answers}
+use Rattle.session_state.specs.StampsAfter.{changes_stamps, changes_watches, standings_after, KeepsStamps}
+use Rattle.session_state.specs.State.{Mark, State, Watch, with_documents}
 use Rattle.session_state.specs.Step.{changes_marks, changes_version, shown_at, step, with_lists}
+use Rattle.session_state.specs.Watches.{change_answered, change_found, has_watch, watch_answered, watch_named, watch_refusal, watch_set, watch_taken, with_watch_reply, without_watch}
 
 -- Where the reply is a refusal, what comes with it is what was there.
 abbrev pub Stays : {X : Type 0} → X → X × Reply → Type 0
@@ -58,7 +61,7 @@ refused-else false old why more h refused = refl
 done : {X : Type 0} (old new : X) → Stays old (new, Done)
 done old new refused = let no : ⊥ = cc in absurd no
 
--- ---- documents, marks and lists
+-- ---- documents, marks, watches and lists
 
 -- Where the collection answers that all stays, the documents are what was there.
 abbrev pub Keeps : {E : Type 0} → List Named → List Named × Result ⊤ E → Type 0
@@ -101,6 +104,10 @@ stays-unmarked : (marks : List Mark) (name : List ℕ) → Stays marks (mark_tak
 stays-unmarked marks name =
     refused-else (has_mark name marks) marks (refusal.NoSuchName name) (without_mark name marks, Done) (done marks (without_mark name marks))
 
+stays-unwatched : (watches : List Watch) (name : List ℕ) → Stays watches (watch_taken watches name)
+stays-unwatched watches name =
+    refused-else (has_watch name watches) watches (refusal.NoSuchName name) (without_watch name watches, Done) (done watches (without_watch name watches))
+
 -- ---- the state round them
 
 in-documents : (state : State) (answered : List Named × Reply) → Stays state.documents answered → Stays state (with_documents state answered)
@@ -108,6 +115,9 @@ in-documents state (documents, reply) h refused = ap (λ (ds : List Named). reco
 
 in-marks : (state : State) (answered : List Mark × Reply) → Stays state.marks answered → Stays state (with_marks state answered)
 in-marks state (marks, reply) h refused = ap (λ (ms : List Mark). record state { marks = ms }) (h refused)
+
+in-watches : (state : State) (answered : List Watch × Reply) → Stays state.watches answered → Stays state (with_watch_reply state answered)
+in-watches state (watches, reply) h refused = ap (λ (ws : List Watch). record state { watches = ws }) (h refused)
 
 first : {X : Type 0} (test : Bool) (x y : X) → test ≡ true → cond test x y ≡ x
 first test x y h = ap (λ t. cond t x y) h
@@ -158,6 +168,34 @@ module _ (says : Judgement) (state : State) where
   stays-shown name path None refused = refl
   stays-shown name path (Some mark) refused = in-plans path state (state, answer says Names (at_mark state mark) path) (λ _. refl) refused
 
+  -- by the reply to the query of a path
+  stays-answered : (name path : List ℕ) (told : Reply) → Stays state (watch_answered state name path told)
+  stays-answered name path (reply.Nodes lines) = done state (watch_answered state name path (reply.Nodes lines)).0
+  stays-answered name path reply.Done = λ _. refl
+  stays-answered name path (reply.Texts lines) = λ _. refl
+  stays-answered name path (reply.Changed lines) = λ _. refl
+  stays-answered name path (reply.Explained text) = λ _. refl
+  stays-answered name path (reply.Counts counts) = λ _. refl
+  stays-answered name path (reply.Refused why) = λ _. refl
+
+  stays-told : (name : List ℕ) (w : Watch) (told : Reply) → Stays state (change_answered state name w told)
+  stays-told name w (reply.Nodes lines) = λ refused. let no : ⊥ = cc in absurd no
+  stays-told name w reply.Done = λ _. refl
+  stays-told name w (reply.Texts lines) = λ _. refl
+  stays-told name w (reply.Changed lines) = λ _. refl
+  stays-told name w (reply.Explained text) = λ _. refl
+  stays-told name w (reply.Counts counts) = λ _. refl
+  stays-told name w (reply.Refused why) = λ _. refl
+
+  stays-watched : (name path : List ℕ) (why : Option Refusal) → Stays state (watch_set says state name path why)
+  stays-watched name path (Some why) refused = refl
+  stays-watched name path None refused =
+      in-plans path state (watch_answered state name path (answer says Names state path)) (stays-answered name path (answer says Names state path)) refused
+
+  stays-changed : (name : List ℕ) (watch : Option Watch) → Stays state (change_found says state name watch)
+  stays-changed name None refused = refl
+  stays-changed name (Some w) refused = stays-told name w (answer says Names state w.path) refused
+
   -- a refused command leaves the state
   pub stays : (c : Command) → Stays state (step says state c)
   unfolding step
@@ -175,6 +213,9 @@ module _ (says : Judgement) (state : State) where
   stays (command.Print path) = in-plans path state (state, answer says Texts state path) (λ _. refl)
   stays (command.Mark name) = in-marks state (mark_put state.marks name state.documents state.abbreviations) (stays-marked state.marks name state.documents state.abbreviations)
   stays (command.Unmark name) = in-marks state (mark_taken state.marks name) (stays-unmarked state.marks name)
+  stays (command.Watch name path) = stays-watched name path (watch_refusal name state.watches)
+  stays (command.Changes name) = stays-changed name (watch_named name state.watches)
+  stays (command.Unwatch name) = in-watches state (watch_taken state.watches name) (stays-unwatched state.watches name)
   stays (command.Explain text) = λ _. refl
   stays command.Stats = λ _. refl
   stays (command.BadCommand line) = λ _. refl
@@ -182,26 +223,18 @@ module _ (says : Judgement) (state : State) where
 
 -- ---- all that is held
 
+-- what some commands alone change stays where one is refused
+stays-where : {X : Type 0} (changes : Bool) (old new : X) (reply : Reply) → (changes ≡ false → new ≡ old) → (changes ≡ true → is_refusal reply ≡ true → new ≡ old)
+    → is_refusal reply ≡ true → new ≡ old
+stays-where true old new reply kept refused is = refused refl is
+stays-where false old new reply kept refused is = kept refl
+
 -- A command was answered, and what is held is the same as before, as far as these facts say.
 module _ (says : Judgement) (before after : Held) (c : Command)
     (version : changes_version c ≡ false → after.version ≡ before.version)
-    (marks : changes_marks c ≡ false → after.mark_versions ≡ before.mark_versions) where
-  mark-versions : (reply : Reply) → (changes_marks c ≡ true → is_refusal reply ≡ true → after.mark_versions ≡ before.mark_versions)
-      → is_refusal reply ≡ true → after.mark_versions ≡ before.mark_versions
-  mark-versions reply set refused = by (changes_marks c) refl
-    where
-      by : (test : Bool) → changes_marks c ≡ test → after.mark_versions ≡ before.mark_versions
-      by true is = set is refused
-      by false is = marks is
-
-  same-version : (reply : Reply) → (changes_version c ≡ true → is_refusal reply ≡ true → after.version ≡ before.version)
-      → is_refusal reply ≡ true → after.version ≡ before.version
-  same-version reply changed refused = by (changes_version c) refl
-    where
-      by : (test : Bool) → changes_version c ≡ test → after.version ≡ before.version
-      by true is = changed is refused
-      by false is = version is
-
+    (marks : changes_marks c ≡ false → after.mark_versions ≡ before.mark_versions)
+    (stamps : changes_stamps c ≡ false → after.stamps ≡ before.stamps)
+    (standings : changes_watches c ≡ false → after.standings ≡ before.standings) where
   same-state : (reply : Reply) → (after.state, reply) ≡ step says before.state c → is_refusal reply ≡ true → after.state ≡ before.state
   same-state reply answered refused =
       let told : reply ≡ (step says before.state c).1 = ap (λ (x : State × Reply). x.1) answered in
@@ -210,8 +243,84 @@ module _ (says : Judgement) (before after : Held) (c : Command)
   pub refused-held : (result : Result Reply Memory) → IfOk result (λ reply. (after.state, reply) ≡ step says before.state c)
       → (changes_version c ≡ true → IfOk result (λ reply. is_refusal reply ≡ true → after.version ≡ before.version))
       → (changes_marks c ≡ true → IfOk result (λ reply. is_refusal reply ≡ true → after.mark_versions ≡ before.mark_versions))
+      → (changes_stamps c ≡ true → IfOk result (λ reply. is_refusal reply ≡ true → after.stamps ≡ before.stamps))
+      → (changes_watches c ≡ true → IfOk result (λ reply. is_refusal reply ≡ true → after.standings ≡ before.standings))
       → IfOk result (λ reply. is_refusal reply ≡ true → after ≡ before)
-  refused-held (Ok reply) answered changed set =
+  refused-held (Ok reply) answered changed set stamped asked =
       λ refused i.
-      record { state = same-state reply answered refused i; version = same-version reply changed refused i; mark_versions = mark-versions reply set refused i }
-  refused-held (Err e) answered changed set = tt
+      record {
+        state = same-state reply answered refused i;
+        version = stays-where (changes_version c) before.version after.version reply version changed refused i;
+        mark_versions = stays-where (changes_marks c) before.mark_versions after.mark_versions reply marks set refused i;
+        stamps = stays-where (changes_stamps c) before.stamps after.stamps reply stamps stamped refused i;
+        standings = stays-where (changes_watches c) before.standings after.standings reply standings asked refused i;
+      }
+  refused-held (Err e) answered changed set stamped asked = tt
+
+-- ---- stamps and answers after an accepted command
+
+keeps-stamps : (says : Judgement) (state : State) (c : Command) (before after : List ℕ) → (changes_stamps c ≡ true → KeepsStamps says state c before after)
+    → (changes_stamps c ≡ false → after ≡ before) → KeepsStamps says state c before after
+unfolding KeepsStamps
+keeps-stamps says state (command.Load name block) before after changed kept = changed refl
+keeps-stamps says state (command.Drop name) before after changed kept = changed refl
+keeps-stamps says state (command.Insert how path block) before after changed kept = changed refl
+keeps-stamps says state (command.Replace path block) before after changed kept = changed refl
+keeps-stamps says state (command.Delete path) before after changed kept = changed refl
+keeps-stamps says state (command.Stop name block) before after changed kept = tt
+keeps-stamps says state (command.Stems block) before after changed kept = tt
+keeps-stamps says state (command.Abbreviations block) before after changed kept = tt
+keeps-stamps says state (command.Thesaurus name block) before after changed kept = tt
+keeps-stamps says state (command.Query path) before after changed kept = kept refl
+keeps-stamps says state (command.QueryAt name path) before after changed kept = kept refl
+keeps-stamps says state (command.Print path) before after changed kept = kept refl
+keeps-stamps says state (command.Mark name) before after changed kept = kept refl
+keeps-stamps says state (command.Unmark name) before after changed kept = kept refl
+keeps-stamps says state (command.Watch name path) before after changed kept = kept refl
+keeps-stamps says state (command.Changes name) before after changed kept = kept refl
+keeps-stamps says state (command.Unwatch name) before after changed kept = kept refl
+keeps-stamps says state (command.Explain text) before after changed kept = kept refl
+keeps-stamps says state command.Stats before after changed kept = kept refl
+keeps-stamps says state (command.BadCommand line) before after changed kept = kept refl
+keeps-stamps says state (command.BadName line) before after changed kept = kept refl
+
+pub stamps-after : (says : Judgement) (state : State) (c : Command) (before after : List ℕ) (result : Result Reply Memory)
+    → (changes_stamps c ≡ true → IfOk result (λ reply. is_refusal reply ≡ false → KeepsStamps says state c before after)) → (changes_stamps c ≡ false → after ≡ before)
+    → IfOk result (λ reply. is_refusal reply ≡ false → KeepsStamps says state c before after)
+stamps-after says state c before after (Ok reply) changed kept = λ accepted. keeps-stamps says state c before after (λ is. changed is accepted) kept
+stamps-after says state c before after (Err e) changed kept = tt
+
+-- what no command but those of watches changes
+other-standings : (says : Judgement) (held : Held) (c : Command) → changes_watches c ≡ false → standings_after says held c ≡ held.standings
+unfolding standings_after
+other-standings says held (command.Load name block) is = refl
+other-standings says held (command.Drop name) is = refl
+other-standings says held (command.Insert how path block) is = refl
+other-standings says held (command.Replace path block) is = refl
+other-standings says held (command.Delete path) is = refl
+other-standings says held (command.Stop name block) is = refl
+other-standings says held (command.Stems block) is = refl
+other-standings says held (command.Abbreviations block) is = refl
+other-standings says held (command.Thesaurus name block) is = refl
+other-standings says held (command.Query path) is = refl
+other-standings says held (command.QueryAt name path) is = refl
+other-standings says held (command.Print path) is = refl
+other-standings says held (command.Mark name) is = refl
+other-standings says held (command.Unmark name) is = refl
+other-standings says held (command.Watch name path) is = let no : ⊥ = cc in absurd no
+other-standings says held (command.Changes name) is = let no : ⊥ = cc in absurd no
+other-standings says held (command.Unwatch name) is = let no : ⊥ = cc in absurd no
+other-standings says held (command.Explain text) is = refl
+other-standings says held command.Stats is = refl
+other-standings says held (command.BadCommand line) is = refl
+other-standings says held (command.BadName line) is = refl
+
+pub standings-now : (says : Judgement) (held : Held) (c : Command) (after : List Answers) (result : Result Reply Memory)
+    → (changes_watches c ≡ true → IfOk result (λ reply. is_refusal reply ≡ false → after ≡ standings_after says held c)) → (changes_watches c ≡ false → after ≡ held.standings)
+    → IfOk result (λ reply. is_refusal reply ≡ false → after ≡ standings_after says held c)
+standings-now says held c after (Ok reply) changed kept = λ accepted. by (changes_watches c) refl accepted
+  where
+    by : (test : Bool) → changes_watches c ≡ test → is_refusal reply ≡ false → after ≡ standings_after says held c
+    by true is accepted = changed is accepted
+    by false is accepted = kept is ∙ sym (other-standings says held c is)
+standings-now says held c after (Err e) changed kept = tt

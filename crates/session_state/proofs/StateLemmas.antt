@@ -19,6 +19,7 @@ use Rattle.session_state.specs.declared.shown.Shown.TheVariants.{Names}
 use Rattle.session_state.specs.Held.{Held}
 use Rattle.session_state.specs.KeptMarks.{marks_of, versions_of}
 use Rattle.session_state.specs.KeptTexts.{keep_plans, kept_after}
+use Rattle.session_state.specs.KeptWatches.{standings_of, watches_of}
 use Rattle.session_state.specs.Marks.{at_mark, mark_named, version_of_mark}
 use Rattle.session_state.specs.PathPrices.{held_at, price_at, read_price}
 use Rattle.session_state.specs.Paths.{answer, answer_read}
@@ -28,26 +29,37 @@ use Rattle.session_state.specs.StateView.{held_of, prepared_of, state_of}
 use Rattle.session_state.specs.Step.{shown_at}
 use Rattle.session_state.proofs.EditLemmas.{replied, with_prepared_in}
 use Rattle.session_state.proofs.MarkLemmas.{found-mark, Entry, IsFound}
+use Rattle.session_state.proofs.WatchLemmas as watched
+use Rattle.stamped_documents.specs.Stamped.{StampedDocuments}
 
 -- what a session holds, by its parts
-abbrev pub held_as : Indexed → Preparation → List Entry → Held
-held_as collection q entries = record {
-  state = record { documents = collection.documents; abbreviations = collection.abbreviations; lists = q.lists; marks = marks_of entries; kept = q.kept };
-  version = collection.version;
+abbrev pub held_as : StampedDocuments → Preparation → List Entry → List watched.Entry → Held
+held_as stamped q entries watches = record {
+  state = record {
+    documents = stamped.indexed.documents;
+    abbreviations = stamped.indexed.abbreviations;
+    lists = q.lists;
+    marks = marks_of entries;
+    watches = watches_of watches;
+    kept = q.kept;
+  };
+  version = stamped.indexed.version;
   mark_versions = versions_of entries;
+  stamps = stamped.stamps;
+  standings = standings_of watches;
 }
 
 -- a path is answered by the documents, the abbreviations and the lists alone
 module _ (says : Judgement) (what : Shown) (a b : State) (documents : a.documents ≡ b.documents) (abbreviations : a.abbreviations ≡ b.abbreviations) (lists : a.lists ≡ b.lists) where
   pub same-answer : (read : Result PathForm QueryFault) → answer_read says what a read ≡ answer_read says what b read
   same-answer (Err fault) = refl
-  same-answer (Ok p) = λ i. answer_read says what (record { documents = documents i; abbreviations = abbreviations i; lists = lists i; marks = a.marks; kept = a.kept }) (Ok p)
+  same-answer (Ok p) = λ i. answer_read says what (record { documents = documents i; abbreviations = abbreviations i; lists = lists i; marks = a.marks; watches = a.watches; kept = a.kept }) (Ok p)
 
 pub same-price : (says : Judgement) (a b : Held) (read : Result PathForm QueryFault) → a.state.documents ≡ b.state.documents → a.state.abbreviations ≡ b.state.abbreviations
     → a.state.lists ≡ b.state.lists → a.version ≡ b.version → read_price says a read ≡ read_price says b read
 same-price says a b (Err fault) documents abbreviations lists version = refl
 same-price says a b (Ok p) documents abbreviations lists version =
-    λ i. read_price says (record { state = record { documents = documents i; abbreviations = abbreviations i; lists = lists i; marks = a.state.marks; kept = a.state.kept }; version = version i; mark_versions = a.mark_versions }) (Ok p)
+    λ i. read_price says (record { state = record { documents = documents i; abbreviations = abbreviations i; lists = lists i; marks = a.state.marks; watches = a.state.watches; kept = a.state.kept }; version = version i; mark_versions = a.mark_versions; stamps = a.stamps; standings = a.standings }) (Ok p)
 
 -- the plans of a path are kept where its reply isn't refused
 pub kept-by-reply : (state : State) (q : Preparation) (text : List ℕ) (reply : Reply) → q ≡ kept_for text reply (prepared_of state)

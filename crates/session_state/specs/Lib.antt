@@ -12,6 +12,10 @@ pub mod KeptTexts
 pub mod ReadyPaths
 pub mod Marks
 pub mod KeptMarks
+pub mod Watches
+pub mod KeptWatches
+pub mod Standings
+pub mod StampsAfter
 pub mod Edits
 pub mod Stats
 pub mod Step

@@ -1,10 +1,10 @@
 -- How far cursors may move by which a path of cheap selections is answered: the prices of the tests for which it asks, over the version of the index.
-use Rattle.std.specs.Prelude.{ℕ, zero, suc, Bool, true, List, [], ◌∷◌, map, Option, Some, None, Result, Ok, Err}
+use Rattle.std.specs.Prelude.{ℕ, zero, suc, Bool, true, if◌then◌else◌, List, [], ◌∷◌, map, Option, Some, None, Result, Ok, Err}
 use Rattle.std.specs.List.{list_all, sum_by}
 use Rattle.ft_base.specs.Selection.{Form}
 use Rattle.ft_base.specs.declared.fault.QueryFault.{QueryFault}
 use Rattle.index_meaning.specs.Documents.{Numbered}
-use Rattle.path_meaning.specs.Collection.{documents}
+use Rattle.path_meaning.specs.Collection.{Named, documents}
 use Rattle.path_meaning.specs.Elements.{Element}
 use Rattle.path_meaning.specs.Tests.{selected_tests}
 use Rattle.path_nodes.specs.Prices.{total_price}
@@ -12,6 +12,7 @@ use Rattle.path_subset.specs.Answer.{path_read}
 use Rattle.path_subset.specs.Paths.{PathForm}
 use Rattle.plain_tree.specs.Document.{Node}
 use Rattle.plan_runs.specs.Judgement.{Judgement}
+use Rattle.standing_queries.specs.Answers.{Answers}
 use Rattle.plan_compiler.specs.CheapSelections.{is_cheap}
 use Rattle.plan_compiler.specs.Lexicon.{lexicon}
 use Rattle.plan_compiler.specs.NamedLists.{NamedLists}
@@ -21,8 +22,11 @@ use Rattle.command_replies.specs.declared.command.Command.TheVariants as command
 use Rattle.tokenizer.specs.Tokens.{words_in}
 use Rattle.session_state.specs.Held.{Held}
 use Rattle.session_state.specs.Marks.{at_mark, mark_named, version_of_mark}
+use Rattle.session_state.specs.Edits.{leads_through}
 use Rattle.session_state.specs.Paths.{satisfies, selections_of}
-use Rattle.session_state.specs.State.{Mark}
+use Rattle.session_state.specs.Standings.{standing_of, unknown_price}
+use Rattle.session_state.specs.State.{Mark, State, Watch}
+use Rattle.session_state.specs.Watches.{watch_named}
 
 -- the words of an element, in order
 abbrev pub words_of : Element → List (List ℕ)
@@ -63,6 +67,21 @@ abbrev pub price_at : Judgement → Held → List ℕ → List ℕ → Option Ma
 price_at says held name path None = 0
 price_at says held name path (Some mark) = read_price says (held_at held name mark) (path_read path)
 
+-- in a document; it costs nothing where the path doesn't lead through the document
+abbrev pub document_price : Judgement → Held → PathForm → Named → ℕ
+document_price says held p d =
+    if leads_through p.path.root d.name then price_in says held.state.abbreviations held.state.lists held.version p d.root else 0
+
+-- in the documents alone of which nothing is kept
+abbrev pub price_of_unknown : Judgement → Held → Answers → Result PathForm QueryFault → ℕ
+price_of_unknown says held kept (Err fault) = 0
+price_of_unknown says held kept (Ok p) = unknown_price kept (document_price says held p) held.stamps held.state.documents
+
+-- what has to be asked for the changes of a watch: nothing where there is no such watch
+abbrev pub price_of_changes : Judgement → Held → List ℕ → Option Watch → ℕ
+price_of_changes says held name None = 0
+price_of_changes says held name (Some w) = price_of_unknown says held (standing_of name held.state.watches held.standings) (path_read w.path)
+
 -- whether selections are cheap, each under its lists
 abbrev pub are_cheap : List (NamedLists × Form) → Bool
 are_cheap selections = list_all (λ s. is_cheap (lexicon s.0) s.1) selections
@@ -72,15 +91,21 @@ abbrev pub is_cheap_path : NamedLists → Result PathForm QueryFault → Bool
 is_cheap_path lists (Err fault) = true
 is_cheap_path lists (Ok p) = are_cheap (map (λ form. (lists, form)) (selections_of p))
 
+abbrev pub is_cheap_watch : NamedLists → Option Watch → Bool
+is_cheap_watch lists None = true
+is_cheap_watch lists (Some w) = is_cheap_path lists (path_read w.path)
+
 -- whether all selections for which a command asks are cheap
-unfoldable pub asks_cheaply : NamedLists → Command → Bool
-asks_cheaply lists (command.Insert how path block) = is_cheap_path lists (path_read path)
-asks_cheaply lists (command.Replace path block) = is_cheap_path lists (path_read path)
-asks_cheaply lists (command.Delete path) = is_cheap_path lists (path_read path)
-asks_cheaply lists (command.Query path) = is_cheap_path lists (path_read path)
-asks_cheaply lists (command.QueryAt name path) = is_cheap_path lists (path_read path)
-asks_cheaply lists (command.Print path) = is_cheap_path lists (path_read path)
-asks_cheaply lists _ = true
+unfoldable pub asks_cheaply : State → Command → Bool
+asks_cheaply state (command.Insert how path block) = is_cheap_path state.lists (path_read path)
+asks_cheaply state (command.Replace path block) = is_cheap_path state.lists (path_read path)
+asks_cheaply state (command.Delete path) = is_cheap_path state.lists (path_read path)
+asks_cheaply state (command.Query path) = is_cheap_path state.lists (path_read path)
+asks_cheaply state (command.QueryAt name path) = is_cheap_path state.lists (path_read path)
+asks_cheaply state (command.Print path) = is_cheap_path state.lists (path_read path)
+asks_cheaply state (command.Watch name path) = is_cheap_path state.lists (path_read path)
+asks_cheaply state (command.Changes name) = is_cheap_watch state.lists (watch_named name state.watches)
+asks_cheaply state _ = true
 
 -- how far a command may move cursors, where all selections for which it asks are cheap: as far as the tests of its path cost
 unfoldable pub moves_for : Judgement → Held → Command → ℕ
@@ -90,4 +115,6 @@ moves_for says held (command.Delete path) = read_price says held (path_read path
 moves_for says held (command.Query path) = read_price says held (path_read path)
 moves_for says held (command.QueryAt name path) = price_at says held name path (mark_named name held.state.marks)
 moves_for says held (command.Print path) = read_price says held (path_read path)
+moves_for says held (command.Watch name path) = read_price says held (path_read path)
+moves_for says held (command.Changes name) = price_of_changes says held name (watch_named name held.state.watches)
 moves_for says held _ = 0

@@ -41,4 +41,6 @@ two_held lists version = record {
   state = record opening { documents = record { name = codes "l"; root = letters } ∷ record { name = codes "n"; root = nested } ∷ []; lists = lists };
   version = version;
   mark_versions = [];
+  stamps = [];
+  standings = [];
 }

@@ -27,6 +27,7 @@ use Rattle.session_state.specs.Marks.{at_mark, mark_named, marked, unmarked}
 use Rattle.session_state.specs.Paths.{answer}
 use Rattle.session_state.specs.State.{State, Mark, with_documents}
 use Rattle.session_state.specs.Stats.{counts}
+use Rattle.session_state.specs.Watches.{changed, unwatched, watched}
 
 -- a state with other lists, and the reply. Plans are made under lists, so that none is kept where a list came.
 abbrev pub with_lists : State → NamedLists × Reply → State × Reply
@@ -58,6 +59,9 @@ step says state (command.QueryAt name path) = shown_at says state name path (mar
 step says state (command.Print path) = shown says Texts state path
 step says state (command.Mark name) = marked state name
 step says state (command.Unmark name) = unmarked state name
+step says state (command.Watch name path) = watched says state name path
+step says state (command.Changes name) = changed says state name
+step says state (command.Unwatch name) = unwatched state name
 step says state (command.Explain text) = (state, explained text)
 step says state command.Stats = (state, counts state)
 step says state (command.BadCommand line) = (state, Refused (refusal.BadCommand line))
@@ -85,7 +89,7 @@ changes_marks (command.Mark name) = true
 changes_marks (command.Unmark name) = true
 changes_marks _ = false
 
--- whether a command has a path, by which elements are selected; no other moves cursors
+-- whether a command has a path, by which elements are selected, or asks again by the path of a watch; no other moves cursors
 abbrev pub has_path : Command → Bool
 has_path (command.Insert how path block) = true
 has_path (command.Replace path block) = true
@@ -93,6 +97,8 @@ has_path (command.Delete path) = true
 has_path (command.Query path) = true
 has_path (command.QueryAt name path) = true
 has_path (command.Print path) = true
+has_path (command.Watch name path) = true
+has_path (command.Changes name) = true
 has_path _ = false
 
 -- how many rows a command may put or take: one for each token of a document that is loaded or taken out, and for each word of the texts

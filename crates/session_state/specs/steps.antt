@@ -1,1 +1,4 @@
+pub mod Again
 pub mod Chosen
+pub mod Renewed
+pub mod Turns

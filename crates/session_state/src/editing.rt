@@ -1,6 +1,6 @@
 //! Edits of the elements that a path selects.
 
-ghost use Rattle.std.specs.Prelude.{◌≡◌, ◌≤◌, ◌+◌, IfOk, None, OnErr, map, true};
+ghost use Rattle.std.specs.Prelude.{◌≡◌, ◌≤◌, ◌+◌, false, IfOk, None, OnErr, map, true};
 ghost use Rattle.collections.specs.Documents.{edited_within, touched_in};
 ghost use Rattle.collections.specs.Targets.{places_of_targets, AreTargets};
 ghost use Rattle.path_meaning.specs.Collection.{documents as documents_of};
@@ -9,6 +9,7 @@ ghost use Rattle.session_state.specs.Edits.{edit_placed, has_root, is_one, targe
 ghost use Rattle.session_state.specs.PlannedPaths.{prices_in, run_over, HasItsPlans, has_cheap_plans};
 ghost use Rattle.session_state.specs.steps.Chosen.{edit_of, planned_places};
 ghost use Rattle.command_replies.specs.Replies.{is_refusal};
+ghost use Rattle.stamped_documents.specs.Stamps.{restamped};
 ghost use Rattle.tree_edits.specs.steps.Acts.{stays as does_stay};
 
 use crate::asked_runs::Abbreviated;
@@ -21,6 +22,7 @@ use command_replies::{Refusal, Reply};
 use ft_base::{Memory, Steps};
 use plain_tree::How;
 use plan_runs::Judge;
+use stamped_documents::Stamped;
 use std::marker::Brand;
 use std::sync::ledger::Ledger;
 
@@ -28,32 +30,35 @@ use std::sync::ledger::Ledger;
 /// would exceed a limit.
 pub(crate) fn edit_along<J: Judge, L: Ledger, M: Ledger>(
     judge: &J,
-    collection: &mut Collection,
+    stamped: &mut Stamped,
     edit: &Edit<'_>,
     path: &PlannedPath<'_>,
     moves: &mut Steps<M>,
     rows: &mut Steps<L>,
 ) -> Result<Reply, Memory>
     requires { HasItsPlans path.now }
-    ensures answer { IfOk result (λ reply. (collection.new.documents, reply)
-        ≡ edit_placed collection.old.documents (edit_of edit.now) (map (planned_places J.says collection.old.abbreviations path.now) collection.old.documents)
-        (target_refusal edit.now.targets (edit_of edit.now) (map (planned_places J.says collection.old.abbreviations path.now) collection.old.documents))) }
-    ensures abbreviations { collection.new.abbreviations ≡ collection.old.abbreviations }
-    ensures err { OnErr result (collection.new ≡ collection.old) }
-    ensures refused { IfOk result (λ reply. is_refusal reply ≡ true → collection.new ≡ collection.old) }
+    ensures answer { IfOk result (λ reply. (stamped.new.indexed.documents, reply)
+        ≡ edit_placed stamped.old.indexed.documents (edit_of edit.now) (map (planned_places J.says stamped.old.indexed.abbreviations path.now) stamped.old.indexed.documents)
+        (target_refusal edit.now.targets (edit_of edit.now) (map (planned_places J.says stamped.old.indexed.abbreviations path.now) stamped.old.indexed.documents))) }
+    ensures abbreviations { stamped.new.indexed.abbreviations ≡ stamped.old.indexed.abbreviations }
+    ensures err { OnErr result (stamped.new ≡ stamped.old) }
+    ensures refused { IfOk result (λ reply. is_refusal reply ≡ true → stamped.new ≡ stamped.old) }
+    ensures stamps { IfOk result (λ reply. is_refusal reply ≡ false → stamped.new.stamps
+        ≡ restamped stamped.old.next (map (planned_places J.says stamped.old.indexed.abbreviations path.now) stamped.old.indexed.documents) stamped.old.stamps) }
+    ensures next { stamped.old.next ≤ stamped.new.next }
     ensures moves { moves.old ≤ moves.new }
     ensures price { has_cheap_plans path.now ≡ true → moves.new
         ≤ moves.old
-        + prices_in J.says collection.old.abbreviations path.now (map (run_over collection.old.version) path.now.plans.now)
-        (documents_of path.now.root.now collection.old.documents) }
+        + prices_in J.says stamped.old.indexed.abbreviations path.now (map (run_over stamped.old.indexed.version) path.now.plans.now)
+        (documents_of path.now.root.now stamped.old.indexed.documents) }
     ensures rows { rows.new
         ≤ rows.old
-        + touched_placed collection.old.documents (edit_of edit.now) (map (planned_places J.says collection.old.abbreviations path.now) collection.old.documents)
-        (target_refusal edit.now.targets (edit_of edit.now) (map (planned_places J.says collection.old.abbreviations path.now) collection.old.documents)) }
+        + touched_placed stamped.old.indexed.documents (edit_of edit.now) (map (planned_places J.says stamped.old.indexed.abbreviations path.now) stamped.old.indexed.documents)
+        (target_refusal edit.now.targets (edit_of edit.now) (map (planned_places J.says stamped.old.indexed.abbreviations path.now) stamped.old.indexed.documents)) }
 {
-    match choose_along::<J, Brand, M>(judge, collection, path, moves) {
+    match choose_along::<J, Brand, M>(judge, stamped.collection(), path, moves) {
         Ok(chosen) => {
-            let edited = edit_chosen(collection, edit, &chosen, rows);
+            let edited = edit_chosen(stamped, edit, &chosen, rows);
             drop(chosen);
             edited
         }
@@ -92,51 +97,57 @@ fn choose_along<J: Judge, A: Abbreviated, M: Ledger>(
 
 /// Edits the elements that were chosen, unless they can't be edited or a document would exceed a limit.
 fn edit_chosen<L: Ledger>(
-    collection: &mut Collection,
+    stamped: &mut Stamped,
     edit: &Edit<'_>,
     chosen: &Chosen,
     rows: &mut Steps<L>,
 ) -> Result<Reply, Memory>
-    requires there { AreTargets collection.old.trees chosen.now.refs }
-    requires count { chosen.now.count ≡ target_count (places_of_targets collection.old.trees chosen.now.refs) }
-    requires rooted { chosen.now.has_root ≡ has_root (places_of_targets collection.old.trees chosen.now.refs) }
-    ensures answer { IfOk result (λ reply. (collection.new.documents, reply)
-        ≡ edit_placed collection.old.documents (edit_of edit.now) (places_of_targets collection.old.trees chosen.now.refs)
-        (target_refusal edit.now.targets (edit_of edit.now) (places_of_targets collection.old.trees chosen.now.refs))) }
-    ensures abbreviations { collection.new.abbreviations ≡ collection.old.abbreviations }
-    ensures err { OnErr result (collection.new ≡ collection.old) }
-    ensures refused { IfOk result (λ reply. is_refusal reply ≡ true → collection.new ≡ collection.old) }
+    requires there { AreTargets stamped.old.indexed.trees chosen.now.refs }
+    requires count { chosen.now.count ≡ target_count (places_of_targets stamped.old.indexed.trees chosen.now.refs) }
+    requires rooted { chosen.now.has_root ≡ has_root (places_of_targets stamped.old.indexed.trees chosen.now.refs) }
+    ensures answer { IfOk result (λ reply. (stamped.new.indexed.documents, reply)
+        ≡ edit_placed stamped.old.indexed.documents (edit_of edit.now) (places_of_targets stamped.old.indexed.trees chosen.now.refs)
+        (target_refusal edit.now.targets (edit_of edit.now) (places_of_targets stamped.old.indexed.trees chosen.now.refs))) }
+    ensures abbreviations { stamped.new.indexed.abbreviations ≡ stamped.old.indexed.abbreviations }
+    ensures err { OnErr result (stamped.new ≡ stamped.old) }
+    ensures refused { IfOk result (λ reply. is_refusal reply ≡ true → stamped.new ≡ stamped.old) }
+    ensures stamps { IfOk result (λ reply. is_refusal reply ≡ false → stamped.new.stamps
+        ≡ restamped stamped.old.next (places_of_targets stamped.old.indexed.trees chosen.now.refs) stamped.old.stamps) }
+    ensures next { stamped.old.next ≤ stamped.new.next }
     ensures rows { rows.new
         ≤ rows.old
-        + touched_placed collection.old.documents (edit_of edit.now) (places_of_targets collection.old.trees chosen.now.refs)
-        (target_refusal edit.now.targets (edit_of edit.now) (places_of_targets collection.old.trees chosen.now.refs)) }
+        + touched_placed stamped.old.indexed.documents (edit_of edit.now) (places_of_targets stamped.old.indexed.trees chosen.now.refs)
+        (target_refusal edit.now.targets (edit_of edit.now) (places_of_targets stamped.old.indexed.trees chosen.now.refs)) }
 {
     match refusal_of(edit, chosen) {
         Some(why) => Ok(Reply::Refused(why)),
-        None => edit_within(collection, edit, chosen, rows),
+        None => edit_within(stamped, edit, chosen, rows),
     }
 }
 
 /// Edits elements that can be edited, unless a document would exceed a limit.
 fn edit_within<L: Ledger>(
-    collection: &mut Collection,
+    stamped: &mut Stamped,
     edit: &Edit<'_>,
     chosen: &Chosen,
     rows: &mut Steps<L>,
 ) -> Result<Reply, Memory>
-    requires there { AreTargets collection.old.trees chosen.now.refs }
-    requires count { chosen.now.count ≡ target_count (places_of_targets collection.old.trees chosen.now.refs) }
-    requires rooted { chosen.now.has_root ≡ has_root (places_of_targets collection.old.trees chosen.now.refs) }
+    requires there { AreTargets stamped.old.indexed.trees chosen.now.refs }
+    requires count { chosen.now.count ≡ target_count (places_of_targets stamped.old.indexed.trees chosen.now.refs) }
+    requires rooted { chosen.now.has_root ≡ has_root (places_of_targets stamped.old.indexed.trees chosen.now.refs) }
     requires accepted { targets_refused edit.now.targets edit.now.how chosen.now.count chosen.now.has_root ≡ None }
-    ensures answer { IfOk result (λ reply. (collection.new.documents, reply)
-        ≡ replied_by edit_refusal (edited_within (edit_of edit.now) (places_of_targets collection.old.trees chosen.now.refs) collection.old.documents)) }
-    ensures abbreviations { collection.new.abbreviations ≡ collection.old.abbreviations }
-    ensures err { OnErr result (collection.new ≡ collection.old) }
-    ensures refused { IfOk result (λ reply. is_refusal reply ≡ true → collection.new ≡ collection.old) }
+    ensures answer { IfOk result (λ reply. (stamped.new.indexed.documents, reply)
+        ≡ replied_by edit_refusal (edited_within (edit_of edit.now) (places_of_targets stamped.old.indexed.trees chosen.now.refs) stamped.old.indexed.documents)) }
+    ensures abbreviations { stamped.new.indexed.abbreviations ≡ stamped.old.indexed.abbreviations }
+    ensures err { OnErr result (stamped.new ≡ stamped.old) }
+    ensures refused { IfOk result (λ reply. is_refusal reply ≡ true → stamped.new ≡ stamped.old) }
+    ensures stamps { IfOk result (λ reply. is_refusal reply ≡ false → stamped.new.stamps
+        ≡ restamped stamped.old.next (places_of_targets stamped.old.indexed.trees chosen.now.refs) stamped.old.stamps) }
+    ensures next { stamped.old.next ≤ stamped.new.next }
     ensures rows { rows.new
-        ≤ rows.old + touched_in (edit_of edit.now) (places_of_targets collection.old.trees chosen.now.refs) collection.old.documents }
+        ≤ rows.old + touched_in (edit_of edit.now) (places_of_targets stamped.old.indexed.trees chosen.now.refs) stamped.old.indexed.documents }
 {
-    match collection.edit(chosen.refs.as_slice(), edit.how, edit.content, rows) {
+    match stamped.edit(chosen.refs.as_slice(), edit.how, edit.content, rows) {
         Ok(Ok(())) => Ok(Reply::Done),
         Ok(Err(why)) => Ok(Reply::Refused(refuse_edit(why))),
         Err(memory) => Err(memory),

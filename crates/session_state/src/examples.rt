@@ -1,6 +1,7 @@
-//! Small cases of the definitions, by computation: what commands do, the prices of paths, and the rows of commands.
+//! Small cases of the definitions, by computation: what commands do, the prices of paths, the rows of commands, and watches.
 
 pub mod abbreviations;
 pub mod commands;
 pub mod prices;
 pub mod rows;
+pub mod watches;

@@ -1,15 +1,18 @@
 //! Commands that change what a session holds and have no path: they bring documents, abbreviations, lists and marks, and take them away.
 
-ghost use Rattle.std.specs.Prelude.{◌≡◌, ◌≤◌, ◌+◌, IfOk, OnErr, true};
+ghost use Rattle.std.specs.Prelude.{◌≡◌, ◌≤◌, ◌+◌, false, if◌then◌else◌, length, IfOk, OnErr, true};
 ghost use Rattle.collections.specs.Documents.{dropped, loadable, loaded, tokens_loaded, tokens_named};
 ghost use Rattle.session_state.specs.Abbreviations.{abbreviations_put};
 ghost use Rattle.session_state.specs.DocumentReplies.{load_refusal, removal_refusal, replied_by};
 ghost use Rattle.session_state.specs.Lists.{stems_put, stop_list_put, thesaurus_put};
 ghost use Rattle.session_state.specs.Marks.{marked, unmarked};
+ghost use Rattle.session_state.specs.StampsAfter.{HasOneMore};
 ghost use Rattle.session_state.specs.State.{with_documents};
 ghost use Rattle.session_state.specs.Stats as held;
 ghost use Rattle.session_state.specs.Step.{with_lists};
+ghost use Rattle.session_state.specs.steps.Renewed.{with_renewed};
 ghost use Rattle.command_replies.specs.Replies.{is_refusal};
+ghost use Rattle.stamped_documents.specs.Stamps.{without_stamp};
 ghost use Rattle.thesaurus_file.specs.Lines.{thesaurus_of};
 ghost use Rattle.word_lists.specs.Stems.{stems_of};
 ghost use Rattle.word_lists.specs.KeySets.{key_set_of};
@@ -21,6 +24,7 @@ use crate::stats::counts;
 use command_replies::Reply;
 use ft_base::{Line, Memory, Steps};
 use plan_runs::Judge;
+use stamped_documents::{Renewal, Stamped};
 use std::sync::ledger::Ledger;
 use word_lists::KeySet;
 
@@ -37,9 +41,14 @@ impl<J: Judge + Drop> Session<J> {
         ensures err { OnErr result (self.new ≡ self.old) }
         ensures version_refused { IfOk result (λ reply. is_refusal reply ≡ true → self.new.version ≡ self.old.version) }
         ensures mark_versions { self.new.mark_versions ≡ self.old.mark_versions }
+        ensures stamps { IfOk result (λ reply. is_refusal reply ≡ false → HasOneMore self.old.stamps self.new.stamps) }
+        ensures stamps_refused { IfOk result (λ reply. is_refusal reply ≡ true → self.new.stamps ≡ self.old.stamps) }
+        ensures standings { self.new.standings ≡ self.old.standings }
         ensures rows { rows.new ≤ rows.old + tokens_loaded self.old.state.documents name.now (loadable block.now) }
     {
-        match self.collection.load(name, block, rows) {
+        // There is a stamp for each document, as the clauses of `stamps` say.
+        let _stamps = self.stamped.stamps();
+        match self.stamped.load(name, block, rows) {
             Ok(Ok(())) => Ok(Reply::Done),
             Ok(Err(why)) => Ok(Reply::Refused(refuse_load(self.alloc, name, why)?)),
             Err(memory) => Err(memory),
@@ -57,9 +66,13 @@ impl<J: Judge + Drop> Session<J> {
         ensures err { OnErr result (self.new ≡ self.old) }
         ensures version_refused { IfOk result (λ reply. is_refusal reply ≡ true → self.new.version ≡ self.old.version) }
         ensures mark_versions { self.new.mark_versions ≡ self.old.mark_versions }
+        ensures stamps { IfOk result (λ reply. is_refusal reply ≡ false
+            → self.new.stamps ≡ without_stamp name.now self.old.state.documents self.old.stamps) }
+        ensures stamps_refused { IfOk result (λ reply. is_refusal reply ≡ true → self.new.stamps ≡ self.old.stamps) }
+        ensures standings { self.new.standings ≡ self.old.standings }
         ensures rows { rows.new ≤ rows.old + tokens_named self.old.state.documents name.now }
     {
-        match self.collection.remove(name, rows) {
+        match self.stamped.remove(name, rows) {
             Ok(Ok(())) => Ok(Reply::Done),
             Ok(Err(why)) => Ok(Reply::Refused(refuse_removal(self.alloc, name, why)?)),
             Err(memory) => Err(memory),
@@ -72,10 +85,12 @@ impl<J: Judge + Drop> Session<J> {
         ensures err { OnErr result (self.new ≡ self.old) }
         ensures version_refused { IfOk result (λ reply. is_refusal reply ≡ true → self.new.version ≡ self.old.version) }
         ensures mark_versions { self.new.mark_versions ≡ self.old.mark_versions }
+        ensures stamps_refused { IfOk result (λ reply. is_refusal reply ≡ true → self.new.stamps ≡ self.old.stamps) }
+        ensures standings { self.new.standings ≡ self.old.standings }
     {
         match KeySet::read(self.alloc, block) {
             Ok(keys) => {
-                self.collection.set_abbreviations(keys)?;
+                self.stamped.set_abbreviations(keys)?;
                 Ok(Reply::Done)
             }
             Err(fault) => refuse_list(fault),
@@ -89,8 +104,12 @@ impl<J: Judge + Drop> Session<J> {
         ensures err { OnErr result (self.new ≡ self.old) }
         ensures version { self.new.version ≡ self.old.version }
         ensures mark_versions { self.new.mark_versions ≡ self.old.mark_versions }
+        ensures stamps_refused { IfOk result (λ reply. is_refusal reply ≡ true → self.new.stamps ≡ self.old.stamps) }
+        ensures standings { self.new.standings ≡ self.old.standings }
     {
-        put_stop_list(self.alloc, &mut self.prepared, name, block)
+        let renewal = self.stamped.renewal()?;
+        let put = put_stop_list(self.alloc, &mut self.prepared, name, block);
+        renew_accepted(&mut self.stamped, renewal, put)
     }
 
     /// Puts the dictionary of stems that the block is in the place of the one that is there.
@@ -100,8 +119,12 @@ impl<J: Judge + Drop> Session<J> {
         ensures err { OnErr result (self.new ≡ self.old) }
         ensures version { self.new.version ≡ self.old.version }
         ensures mark_versions { self.new.mark_versions ≡ self.old.mark_versions }
+        ensures stamps_refused { IfOk result (λ reply. is_refusal reply ≡ true → self.new.stamps ≡ self.old.stamps) }
+        ensures standings { self.new.standings ≡ self.old.standings }
     {
-        put_stems(self.alloc, &mut self.prepared, block)
+        let renewal = self.stamped.renewal()?;
+        let put = put_stems(self.alloc, &mut self.prepared, block);
+        renew_accepted(&mut self.stamped, renewal, put)
     }
 
     /// Puts the thesaurus that the block is under the name.
@@ -111,8 +134,12 @@ impl<J: Judge + Drop> Session<J> {
         ensures err { OnErr result (self.new ≡ self.old) }
         ensures version { self.new.version ≡ self.old.version }
         ensures mark_versions { self.new.mark_versions ≡ self.old.mark_versions }
+        ensures stamps_refused { IfOk result (λ reply. is_refusal reply ≡ true → self.new.stamps ≡ self.old.stamps) }
+        ensures standings { self.new.standings ≡ self.old.standings }
     {
-        put_thesaurus(self.alloc, &mut self.prepared, name, block)
+        let renewal = self.stamped.renewal()?;
+        let put = put_thesaurus(self.alloc, &mut self.prepared, name, block);
+        renew_accepted(&mut self.stamped, renewal, put)
     }
 
     /// Keeps the collection as it is under the name.
@@ -121,8 +148,10 @@ impl<J: Judge + Drop> Session<J> {
         ensures err { OnErr result (self.new ≡ self.old) }
         ensures version { self.new.version ≡ self.old.version }
         ensures mark_versions_refused { IfOk result (λ reply. is_refusal reply ≡ true → self.new.mark_versions ≡ self.old.mark_versions) }
+        ensures stamps { self.new.stamps ≡ self.old.stamps }
+        ensures standings { self.new.standings ≡ self.old.standings }
     {
-        self.marks.put(name, &self.collection)
+        self.marks.put(name, self.stamped.collection())
     }
 
     /// Gives the mark of the name up.
@@ -131,6 +160,8 @@ impl<J: Judge + Drop> Session<J> {
         ensures err { OnErr result (self.new ≡ self.old) }
         ensures version { self.new.version ≡ self.old.version }
         ensures mark_versions_refused { IfOk result (λ reply. is_refusal reply ≡ true → self.new.mark_versions ≡ self.old.mark_versions) }
+        ensures stamps { self.new.stamps ≡ self.old.stamps }
+        ensures standings { self.new.standings ≡ self.old.standings }
     {
         self.marks.remove(name)
     }
@@ -139,6 +170,36 @@ impl<J: Judge + Drop> Session<J> {
     pub(crate) fn stats(&self) -> Reply
         ensures { result ≡ held.counts self.now.state }
     {
-        Reply::Counts(counts(&self.collection, &self.marks, &self.prepared))
+        Reply::Counts(counts(self.stamped.collection(), &self.marks, &self.prepared))
+    }
+}
+
+/// Hands a reply on, and gives all documents new stamps where the command wasn't refused.
+fn renew_accepted(
+    stamped: &mut Stamped,
+    renewal: Renewal,
+    answered: Result<Reply, Memory>,
+) -> Result<Reply, Memory>
+    requires { renewal.next ≡ stamped.old.next + length stamped.old.stamps }
+    ensures same { result ≡ answered }
+    ensures stamped { IfOk answered (λ reply. stamped.new ≡ (if is_refusal reply then stamped.old else with_renewed stamped.old)) }
+    ensures err { OnErr answered (stamped.new ≡ stamped.old) }
+{
+    match answered {
+        Ok(reply) => {
+            renew_if(!reply.is_refusal(), stamped, renewal);
+            Ok(reply)
+        }
+        Err(memory) => Err(memory),
+    }
+}
+
+/// Gives all documents new stamps, or leaves them.
+fn renew_if(renew: bool, stamped: &mut Stamped, renewal: Renewal)
+    requires { renewal.next ≡ stamped.old.next + length stamped.old.stamps }
+    ensures { stamped.new ≡ (if renew then with_renewed stamped.old else stamped.old) }
+{
+    if renew {
+        stamped.renew(renewal);
     }
 }

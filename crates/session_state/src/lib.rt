@@ -19,5 +19,8 @@ mod session;
 mod shown;
 mod stats;
 mod targets;
+mod turns;
+mod watches;
+mod watching;
 
 pub use session::Session;

@@ -153,7 +153,7 @@ fn collect_from<J: Judge, A: Abbreviated, M: Ledger>(
 }
 
 /// Puts the lines of these elements of a document after those found so far.
-fn push_lines(
+pub(crate) fn push_lines(
     alloc: Global,
     name: &str,
     document: &Loaded,

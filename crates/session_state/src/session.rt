@@ -9,6 +9,7 @@ ghost use Rattle.session_state.specs.Marks.{mark_named, AreIndexesOf};
 ghost use Rattle.session_state.specs.PathPrices.{asks_cheaply, is_cheap_path, moves_for, price_at, read_price};
 ghost use Rattle.path_subset.specs.Answer.{path_read};
 ghost use Rattle.session_state.specs.ReadyPaths.{IsReadyPath};
+ghost use Rattle.session_state.specs.StampsAfter.{changes_stamps, changes_watches, standings_after, KeepOthersRead, KeepsStamps};
 ghost use Rattle.session_state.specs.StateView.{prepared_of};
 ghost use Rattle.session_state.specs.Step.{changes_documents, changes_marks, changes_version, has_path, rows_for, shown as shown_by, shown_at, step};
 ghost use Rattle.session_state.specs.steps.Chosen.{edit_of};
@@ -22,32 +23,36 @@ use crate::marks::{Marks, no_such_name};
 use crate::paths::{Ready, ReadyPath, answer_path, ready_path};
 use crate::refusing::refuse_block;
 use crate::shown::Shown;
-use collections::Collection;
+use crate::watches::Watches;
 use command_replies::{Command, Refusal, Reply};
 use doc_profile::read_fragment;
 use ft_base::{Line, Memory, Steps};
 use kept_plans::Prepared;
 use plain_tree::{How, Kids};
 use plan_runs::Judge;
+use stamped_documents::Stamped;
 use std::alloc::Global;
 use std::marker::Model;
 use std::sync::ledger::Ledger;
 
-/// The documents of a session by their names, in the order in which they were loaded, with the abbreviations and their index; the lists
-/// that selections name, and the plans that are kept under them; the marks; and the judge that says whether the words of an element
-/// satisfy a selection.
+/// The documents of a session by their names, in the order in which they were loaded, with the abbreviations, their index and a stamp each;
+/// the lists that selections name, and the plans that are kept under them; the marks and the watches; and the judge that says whether the
+/// words of an element satisfy a selection. What watches keep of the documents that are there are their lines of now.
 #[derive(Drop)]
 pub struct Session<J: Judge + Drop> {
     pub(crate) alloc: Global,
-    pub(crate) collection: Collection,
+    pub(crate) stamped: Stamped,
     pub(crate) prepared: Prepared,
     pub(crate) marks: Marks,
+    pub(crate) watches: Watches,
     pub(crate) judge: J,
 }
 
 impl<J: Judge + Drop> Model for Session<J> {
     ghost use Rattle.session_state.specs.Held.{Held};
     ghost use Rattle.session_state.specs.KeptMarks.{marks_of, versions_of};
+    ghost use Rattle.session_state.specs.KeptWatches.{standings_of, watches_of};
+    ghost use Rattle.session_state.specs.Standings.{AreCurrent};
     ghost use Rattle.session_state.specs.StoredState.{held_code};
 
     ghost Value = { Held };
@@ -56,15 +61,20 @@ impl<J: Judge + Drop> Model for Session<J> {
 
     ghost view = { λ session. record {
       state = record {
-        documents = session.collection.documents;
-        abbreviations = session.collection.abbreviations;
+        documents = session.stamped.indexed.documents;
+        abbreviations = session.stamped.indexed.abbreviations;
         lists = session.prepared.lists;
         marks = marks_of session.marks;
+        watches = watches_of session.watches;
         kept = session.prepared.kept;
       };
-      version = session.collection.version;
+      version = session.stamped.indexed.version;
       mark_versions = versions_of session.marks;
+      stamps = session.stamped.stamps;
+      standings = standings_of session.watches;
     } };
+
+    ghost invariant = { λ session. AreCurrent J.says session.stamped session.prepared.lists session.watches };
 }
 
 impl<J: Judge + Drop> Session<J> {
@@ -75,9 +85,10 @@ impl<J: Judge + Drop> Session<J> {
         match Prepared::new(alloc) {
             Ok(prepared) => Ok(Session {
                 alloc,
-                collection: Collection::new(alloc),
+                stamped: Stamped::new(alloc),
                 prepared,
                 marks: Marks::new(alloc),
+                watches: Watches::new(alloc),
                 judge,
             }),
             Err(memory) => {
@@ -92,7 +103,9 @@ impl<J: Judge + Drop> Session<J> {
     /// then the index of its documents under its abbreviations, and that of each mark the index of the mark's under the mark's.
     ///
     /// `moves` counts the steps of the cursors by which commands with a path answer `contains text`: where all selections of the path are
-    /// cheap, no more than what the tests for which it asks cost. `rows` counts the rows of the index that are put and taken.
+    /// cheap, no more than what the tests for which it asks cost. The changes of a watch ask only documents whose stamps aren't those under
+    /// which the watch was answered last; then it is answered under the stamps of now. `rows` counts the rows of the index that are put and
+    /// taken.
     pub fn step<L: Ledger, M: Ledger>(
         &mut self,
         command: &Command,
@@ -104,8 +117,11 @@ impl<J: Judge + Drop> Session<J> {
         ensures refused { IfOk result (λ reply. is_refusal reply ≡ true → self.new ≡ self.old) }
         ensures indexed { IsIndexOf self.new.state.abbreviations self.new.state.documents self.new.version }
         ensures marked { AreIndexesOf self.new.state.marks self.new.mark_versions }
+        ensures stamps { IfOk result (λ reply. is_refusal reply ≡ false
+            → KeepsStamps J.says self.old.state command.now self.old.stamps self.new.stamps) }
+        ensures standings { IfOk result (λ reply. is_refusal reply ≡ false → self.new.standings ≡ standings_after J.says self.old command.now) }
         ensures moves { moves.old ≤ moves.new }
-        ensures moves_most { asks_cheaply self.old.state.lists command.now ≡ true
+        ensures moves_most { asks_cheaply self.old.state command.now ≡ true
             → moves.new ≤ moves.old + moves_for J.says self.old command.now }
         ensures moves_kept { has_path command.now ≡ false → moves.new ≡ moves.old }
         ensures rows { rows.new ≤ rows.old + rows_for J.says self.old.state command.now }
@@ -113,13 +129,13 @@ impl<J: Judge + Drop> Session<J> {
     {
         let reply = self.carry_out(command, moves, rows);
         // The versions are the indexes of the documents under their abbreviations, as the clauses of these two say.
-        let _documents = self.collection.documents();
+        let _documents = self.stamped.collection().documents();
         let _marks = self.marks.len();
         reply
     }
 
     /// Does what the command says, and answers it.
-    #[tactic(auto, unfolding(crate::specs::Step::step, crate::specs::Step::rows_for, crate::specs::PathPrices::moves_for, crate::specs::PathPrices::asks_cheaply))]
+    #[tactic(auto, unfolding(crate::specs::Step::step, crate::specs::Step::rows_for, crate::specs::PathPrices::moves_for, crate::specs::PathPrices::asks_cheaply, crate::specs::StampsAfter::KeepsStamps, crate::specs::StampsAfter::standings_after))]
     fn carry_out<L: Ledger, M: Ledger>(
         &mut self,
         command: &Command,
@@ -134,8 +150,18 @@ impl<J: Judge + Drop> Session<J> {
         ensures mark_versions { changes_marks command.now ≡ false → self.new.mark_versions ≡ self.old.mark_versions }
         ensures mark_versions_refused { changes_marks command.now ≡ true
             → IfOk result (λ reply. is_refusal reply ≡ true → self.new.mark_versions ≡ self.old.mark_versions) }
+        ensures stamps { changes_stamps command.now ≡ true
+            → IfOk result (λ reply. is_refusal reply ≡ false → KeepsStamps J.says self.old.state command.now self.old.stamps self.new.stamps) }
+        ensures stamps_kept { changes_stamps command.now ≡ false → self.new.stamps ≡ self.old.stamps }
+        ensures stamps_refused { changes_stamps command.now ≡ true
+            → IfOk result (λ reply. is_refusal reply ≡ true → self.new.stamps ≡ self.old.stamps) }
+        ensures standings { changes_watches command.now ≡ true
+            → IfOk result (λ reply. is_refusal reply ≡ false → self.new.standings ≡ standings_after J.says self.old command.now) }
+        ensures standings_kept { changes_watches command.now ≡ false → self.new.standings ≡ self.old.standings }
+        ensures standings_refused { changes_watches command.now ≡ true
+            → IfOk result (λ reply. is_refusal reply ≡ true → self.new.standings ≡ self.old.standings) }
         ensures moves { moves.old ≤ moves.new }
-        ensures moves_most { asks_cheaply self.old.state.lists command.now ≡ true
+        ensures moves_most { asks_cheaply self.old.state command.now ≡ true
             → moves.new ≤ moves.old + moves_for J.says self.old command.now }
         ensures moves_kept { has_path command.now ≡ false → moves.new ≡ moves.old }
         ensures rows { rows.new ≤ rows.old + rows_for J.says self.old.state command.now }
@@ -162,6 +188,9 @@ impl<J: Judge + Drop> Session<J> {
             Command::Print { path } => self.show(Shown::Texts, path.as_str(), moves),
             Command::Mark { name } => self.mark(name),
             Command::Unmark { name } => self.unmark(name),
+            Command::Watch { name, path } => self.watch(name, path, moves),
+            Command::Changes { name } => self.changes(name, moves),
+            Command::Unwatch { name } => self.unwatch(name),
             Command::Explain { text } => explain(self.alloc, text.as_str()),
             Command::Stats => Ok(self.stats()),
             Command::BadCommand { line } => {
@@ -185,6 +214,10 @@ impl<J: Judge + Drop> Session<J> {
         ensures err { OnErr result (self.new ≡ self.old) }
         ensures version_refused { IfOk result (λ reply. is_refusal reply ≡ true → self.new.version ≡ self.old.version) }
         ensures mark_versions { self.new.mark_versions ≡ self.old.mark_versions }
+        ensures stamps { IfOk result (λ reply. is_refusal reply ≡ false
+            → KeepOthersRead J.says self.old.state (path_read path.now) self.old.stamps self.new.stamps) }
+        ensures stamps_refused { IfOk result (λ reply. is_refusal reply ≡ true → self.new.stamps ≡ self.old.stamps) }
+        ensures standings { self.new.standings ≡ self.old.standings }
         ensures moves { moves.old ≤ moves.new }
         ensures price { is_cheap_path self.old.state.lists (path_read path.now) ≡ true
             → moves.new ≤ moves.old + read_price J.says self.old (path_read path.now) }
@@ -216,6 +249,10 @@ impl<J: Judge + Drop> Session<J> {
         ensures err { OnErr result (self.new ≡ self.old) }
         ensures version_refused { IfOk result (λ reply. is_refusal reply ≡ true → self.new.version ≡ self.old.version) }
         ensures mark_versions { self.new.mark_versions ≡ self.old.mark_versions }
+        ensures stamps { IfOk result (λ reply. is_refusal reply ≡ false
+            → KeepOthersRead J.says self.old.state (path_read path.now) self.old.stamps self.new.stamps) }
+        ensures stamps_refused { IfOk result (λ reply. is_refusal reply ≡ true → self.new.stamps ≡ self.old.stamps) }
+        ensures standings { self.new.standings ≡ self.old.standings }
         ensures moves { moves.old ≤ moves.new }
         ensures price { is_cheap_path self.old.state.lists (path_read path.now) ≡ true
             → moves.new ≤ moves.old + read_price J.says self.old (path_read path.now) }
@@ -245,12 +282,16 @@ impl<J: Judge + Drop> Session<J> {
         ensures err { OnErr result (self.new ≡ self.old) }
         ensures version_refused { IfOk result (λ reply. is_refusal reply ≡ true → self.new.version ≡ self.old.version) }
         ensures mark_versions { self.new.mark_versions ≡ self.old.mark_versions }
+        ensures stamps { IfOk result (λ reply. is_refusal reply ≡ false
+            → KeepOthersRead J.says self.old.state (path_read path.now) self.old.stamps self.new.stamps) }
+        ensures stamps_refused { IfOk result (λ reply. is_refusal reply ≡ true → self.new.stamps ≡ self.old.stamps) }
+        ensures standings { self.new.standings ≡ self.old.standings }
         ensures moves { moves.old ≤ moves.new }
         ensures price { is_cheap_path self.old.state.lists (path_read path.now) ≡ true
             → moves.new ≤ moves.old + read_price J.says self.old (path_read path.now) }
         ensures rows { rows.new ≤ rows.old + touched_path J.says self.old.state edit.now.targets (edit_of edit.now) path.now }
     {
-        match ready_path(self.alloc, &self.collection, &self.prepared, path) {
+        match ready_path(self.alloc, self.stamped.collection(), &self.prepared, path) {
             Ok(Ready::Path(ready)) => self.edit_ready(edit, path, ready, moves, rows),
             Ok(Ready::Refused(why)) => Ok(Reply::Refused(why)),
             Err(memory) => Err(memory),
@@ -272,20 +313,19 @@ impl<J: Judge + Drop> Session<J> {
         ensures err { OnErr result (self.new ≡ self.old) }
         ensures version_refused { IfOk result (λ reply. is_refusal reply ≡ true → self.new.version ≡ self.old.version) }
         ensures mark_versions { self.new.mark_versions ≡ self.old.mark_versions }
+        ensures stamps { IfOk result (λ reply. is_refusal reply ≡ false
+            → KeepOthersRead J.says self.old.state (path_read path.now) self.old.stamps self.new.stamps) }
+        ensures stamps_refused { IfOk result (λ reply. is_refusal reply ≡ true → self.new.stamps ≡ self.old.stamps) }
+        ensures standings { self.new.standings ≡ self.old.standings }
         ensures moves { moves.old ≤ moves.new }
         ensures price { is_cheap_path self.old.state.lists (path_read path.now) ≡ true
             → moves.new ≤ moves.old + read_price J.says self.old (path_read path.now) }
         ensures rows { rows.new ≤ rows.old + touched_path J.says self.old.state edit.now.targets (edit_of edit.now) path.now }
     {
+        // There is a stamp for each document, as the clauses of `stamps` say.
+        let _stamps = self.stamped.stamps();
         let planned = ready.planned();
-        let edited = edit_along(
-            &self.judge,
-            &mut self.collection,
-            edit,
-            &planned,
-            moves,
-            rows,
-        );
+        let edited = edit_along(&self.judge, &mut self.stamped, edit, &planned, moves, rows);
         keep_accepted(&mut self.prepared, ready, edited)
     }
 
@@ -300,6 +340,8 @@ impl<J: Judge + Drop> Session<J> {
         ensures err { OnErr result (self.new ≡ self.old) }
         ensures version { self.new.version ≡ self.old.version }
         ensures mark_versions { self.new.mark_versions ≡ self.old.mark_versions }
+        ensures stamps { self.new.stamps ≡ self.old.stamps }
+        ensures standings { self.new.standings ≡ self.old.standings }
         ensures moves { moves.old ≤ moves.new }
         ensures price { is_cheap_path self.old.state.lists (path_read path.now) ≡ true
             → moves.new ≤ moves.old + read_price J.says self.old (path_read path.now) }
@@ -307,7 +349,7 @@ impl<J: Judge + Drop> Session<J> {
         answer_path(
             self.alloc,
             &self.judge,
-            &self.collection,
+            self.stamped.collection(),
             &mut self.prepared,
             shown,
             path,
@@ -327,6 +369,8 @@ impl<J: Judge + Drop> Session<J> {
         ensures err { OnErr result (self.new ≡ self.old) }
         ensures version { self.new.version ≡ self.old.version }
         ensures mark_versions { self.new.mark_versions ≡ self.old.mark_versions }
+        ensures stamps { self.new.stamps ≡ self.old.stamps }
+        ensures standings { self.new.standings ≡ self.old.standings }
         ensures moves { moves.old ≤ moves.new }
         ensures price { is_cheap_path self.old.state.lists (path_read path.now) ≡ true
             → moves.new ≤ moves.old + price_at J.says self.old name.now path.now (mark_named name.now self.old.state.marks) }

@@ -89,7 +89,7 @@ fn choose_in<J: Judge, A: Abbreviated, M: Ledger>(
 }
 
 /// Whether a path goes through the document of the name.
-fn leads_through(root: &PathRoot, name: &Line) -> bool
+pub(crate) fn leads_through(root: &PathRoot, name: &Line) -> bool
     ensures { result ≡ leads root.now name.now }
 {
     match root {

@@ -16,14 +16,14 @@ ghost use Rattle.word_lists.specs.KeySets.{key_set_of};
 ghost use Rattle.session_state.specs.Abbreviations.{abbreviations_put};
 ghost use Rattle.session_state.specs.Marks.{at_mark, marked};
 ghost use Rattle.session_state.specs.Paths.{satisfies};
-ghost use Rattle.session_state.specs.State.{Mark, State};
+ghost use Rattle.session_state.specs.State.{Mark, State, Watch};
 ghost use Rattle.session_state.specs.Step.{changes_documents, changes_version, step};
 
-/// Abbreviations take the place of those that were there: documents, lists, marks and kept plans stay. A bad line changes nothing.
+/// Abbreviations take the place of those that were there: documents, lists, marks, watches and kept plans stay. A bad line changes nothing.
 pub fn abbreviations_that_come()
-    ensures put { (ds : List Named) (old new : List (List ℕ)) (lists : NamedLists) (marks : List Mark) (kept : Kept)
-        → abbreviations_put (record { documents = ds; abbreviations = old; lists = lists; marks = marks; kept = kept }) (Ok new)
-        ≡ (record { documents = ds; abbreviations = new; lists = lists; marks = marks; kept = kept }, reply.Done) }
+    ensures put { (ds : List Named) (old new : List (List ℕ)) (lists : NamedLists) (marks : List Mark) (watches : List Watch) (kept : Kept)
+        → abbreviations_put (record { documents = ds; abbreviations = old; lists = lists; marks = marks; watches = watches; kept = kept }) (Ok new)
+        ≡ (record { documents = ds; abbreviations = new; lists = lists; marks = marks; watches = watches; kept = kept }, reply.Done) }
     ensures bad_line { (state : State) → abbreviations_put state (Err 3) ≡ (state, reply.Refused (refusal.List 3)) }
     ensures command { (says : Judgement) (state : State) (block : List ℕ)
         → step says state (command.Abbreviations block) ≡ abbreviations_put state (key_set_of block) }

@@ -31,6 +31,7 @@ ghost use Rattle.tokenizer.specs.Tokens.{words_in};
 ghost use Rattle.session_state.specs.KeptTexts.{text_at};
 ghost use Rattle.session_state.specs.Held.{Held};
 ghost use Rattle.session_state.specs.PathPrices.{asks_cheaply, element_price, is_cheap_path, moves_for, path_price, price_in, read_price, words_of};
+ghost use Rattle.session_state.specs.State.{State};
 ghost use Rattle.session_state.specs.PriceExamples.{both_asked, first_asked, named_b, two_held, with_selections};
 
 /// The selections of a path are numbered from 0, and one that isn't there costs nothing.
@@ -83,10 +84,11 @@ pub fn cheap_paths()
     ensures first_not { (lists : NamedLists) → is_cheap_path lists (Ok (with_selections Collection both_asked (mild_not word_a word_b ∷ word_b ∷ []))) ≡ false }
     ensures last_not { (lists : NamedLists) → is_cheap_path lists (Ok (with_selections Collection both_asked (word_a ∷ mild_not word_a word_b ∷ []))) ≡ false }
     ensures no_path { (lists : NamedLists) → is_cheap_path lists (Err (faults.Syntax 0)) ≡ true }
-    ensures query { (lists : NamedLists) → (text : List ℕ) → asks_cheaply lists (command.Query text) ≡ is_cheap_path lists (path_read text) }
-    ensures at_a_mark { (lists : NamedLists) → (name text : List ℕ) → asks_cheaply lists (command.QueryAt name text) ≡ is_cheap_path lists (path_read text) }
-    ensures delete { (lists : NamedLists) → (text : List ℕ) → asks_cheaply lists (command.Delete text) ≡ is_cheap_path lists (path_read text) }
-    ensures drop { (lists : NamedLists) → (name : List ℕ) → asks_cheaply lists (command.Drop name) ≡ true }
+    ensures query { (state : State) → (text : List ℕ) → asks_cheaply state (command.Query text) ≡ is_cheap_path state.lists (path_read text) }
+    ensures at_a_mark { (state : State) → (name text : List ℕ) → asks_cheaply state (command.QueryAt name text) ≡ is_cheap_path state.lists (path_read text) }
+    ensures delete { (state : State) → (text : List ℕ) → asks_cheaply state (command.Delete text) ≡ is_cheap_path state.lists (path_read text) }
+    ensures drop { (state : State) → (name : List ℕ) → asks_cheaply state (command.Drop name) ≡ true }
+    ensures no_watch { (state : State) → (name : List ℕ) → asks_cheaply (record state { watches = [] }) (command.Changes name) ≡ true }
 {}
 
 /// What stands at an extent of a text: a selection as it is written, with its quotes; nothing after the text's end.

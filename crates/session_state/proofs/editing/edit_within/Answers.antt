@@ -10,5 +10,5 @@ pub edit-requires-clause-once : goal.edit-requires-clause-once
 edit-requires-clause-once g c =
     let edit = c.args.edit.now in
     let chosen = c.args.chosen.now in
-    let many = ap (λ (rs : List (List NodeRef)). sum_by length rs) c.as_slice.ensures ∙ (as-many-targets c.args.collection.now.trees chosen.refs c.requires.there ∙ sym c.requires.count) in
+    let many = ap (λ (rs : List (List NodeRef)). sum_by length rs) c.as_slice.ensures ∙ (as-many-targets c.args.stamped.now.indexed.trees chosen.refs c.requires.there ∙ sym c.requires.count) in
     once-holds edit.targets edit.how chosen.count _ chosen.has_root edit.content.now c.requires.accepted edit.once many

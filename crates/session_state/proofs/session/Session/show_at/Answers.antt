@@ -11,13 +11,16 @@ use Rattle.session_state.specs.PathPrices.{is_cheap_path, price_at}
 use Rattle.session_state.specs.Step.{shown_at}
 use Rattle.session_state.proofs.EditLemmas.{replied, with_prepared_in}
 use Rattle.session_state.proofs.MarkLemmas.{none-marked}
+use Rattle.plan_compiler.specs.NamedLists.{NamedLists}
+use Rattle.session_state.specs.Standings.{AreCurrent}
+use Rattle.session_state.proofs.StandingLemmas.{kept-lists}
 use Rattle.session_state.proofs.StateLemmas.{held_as, none-at, price-at-mark, shown-at-mark}
 use Rattle.session_state.proofs.session.Session.show_at.Goals as goal
 
 pub returns-in-Some-clause-answer : goal.returns-in-Some-clause-answer
 returns-in-Some-clause-answer g c =
     let inside = c.self.inside in
-    let was = held_as inside.collection inside.prepared inside.marks in
+    let was = held_as inside.stamped inside.prepared inside.marks inside.watches in
     let name = c.args.name.now in
     let path = c.args.path.now in
     let q = c.answer_path.new.prepared in
@@ -29,7 +32,7 @@ returns-in-Some-clause-answer g c =
 pub returns-in-Some-clause-price : goal.returns-in-Some-clause-price
 returns-in-Some-clause-price g c cheap =
     let inside = c.self.inside in
-    let was = held_as inside.collection inside.prepared inside.marks in
+    let was = held_as inside.stamped inside.prepared inside.marks inside.watches in
     let name = c.args.name.now in
     let path = c.args.path.now in
     let mark = c.in-Some.collection.now in
@@ -41,9 +44,15 @@ returns-in-Some-clause-price g c cheap =
 pub returns-in-None-clause-answer : goal.returns-in-None-clause-answer
 returns-in-None-clause-answer g c =
     let inside = c.self.inside in
-    let was = held_as inside.collection inside.prepared inside.marks in
+    let was = held_as inside.stamped inside.prepared inside.marks inside.watches in
     let name = c.args.name.now in
     let path = c.args.path.now in
     let none : lookup (bytes_eq name) inside.marks ≡ None = sym c.get.ensures ∙ ap option_copied c.in-None.is in
     subst (λ (h : Held). IfOk c.no_such_name.result (λ reply. replied h.state reply ≡ shown_at g.J.Judge.says h.state name path (mark_named name h.state.marks))) c.self.view_is
     (none-at g.J.Judge.says was.state name path (none-marked name inside.marks none) c.no_such_name.result c.no_such_name.ensures)
+
+pub invariant_of-self : goal.invariant_of-self
+invariant_of-self g c =
+    let inside = c.self.inside in
+    subst (λ (l : NamedLists). AreCurrent g.J.Judge.says inside.stamped l inside.watches)
+    (sym (kept-lists c.args.path.now inside.prepared c.answer_path.new.prepared c.answer_path.result c.answer_path.ensures.kept c.answer_path.ensures.err)) c.self.invariant
