@@ -151,7 +151,10 @@ def _formed(number, word, rest, block, two):
     if word == "insert":
         told = re.fullmatch(r"(first|last|before|after)[ \t]+(.+)", rest, re.DOTALL)
         return Command(number, f"insert {told[1]}", told[2], block, None) if told else bad
-    if word in ("load", "drop", "stop", "thesaurus", "mark", "unmark"):
+    if two and word == "watch":
+        name, rest = _name(rest, two)
+        return bad if name is None or not rest else _named(number, word, name, block, rest)
+    if word in ("load", "drop", "stop", "thesaurus", "mark", "unmark") or two and word in ("changes", "unwatch"):
         name, rest = _name(rest, two)
         return bad if name is None or rest else _named(number, word, name, block, "")
     return bad
@@ -194,18 +197,20 @@ def bad_line(block):
 
 
 class Engine:
-    """Answers commands over documents that are one element a: `load`, `drop`, `stop`, `abbreviations`, `stems`, marks, and `query` and `print` of
-    `doc("NAME")/a` and of `collection()/a`, this one also cut off somewhere. What a block has that isn't such a document is no document; where its
-    fault is, isn't known here. The lines of stems aren't looked at."""
+    """Answers commands over documents that are one element a: `load`, `drop`, `stop`, `abbreviations`, `stems`, marks, and `query`, `print` and
+    `watch` of `doc("NAME")/a` and of `collection()/a`, this one also cut off somewhere. What a block has that isn't such a document is no document;
+    where its fault is, isn't known here. The lines of stems aren't looked at."""
 
     DOCUMENT = re.compile(r"[ \t\r\n]*(?:<a>([^<>&]*)</a>|<a/>)[ \t\r\n]*")
     PATH = "collection()/a"
     ONE = re.compile(r"""doc\((?:"((?:[^"]|"")*)"|'((?:[^']|'')*)')\)/a(?:\[1\])?""")
     UNKNOWN = "! 6 document: .."
+    MOST_WATCHES = 64
 
     def __init__(self):
         self.documents = {}
         self.marks = {}
+        self.watches = {}
 
     def answer(self, command):
         """The lines of the reply."""
@@ -226,6 +231,12 @@ class Engine:
             return self._found(word, rest, self.documents)
         elif word == "query at":
             return self._found("query", rest[1], self.marks[rest[0]]) if rest[0] in self.marks else [f"! 4 no such name: {rest[0]}"]
+        elif word == "watch":
+            return [self._watch(*rest)]
+        elif word == "changes":
+            return self._changes(rest)
+        elif word == "unwatch":
+            return ["ok" if self.watches.pop(rest, None) is not None else f"! 4 no such name: {rest}"]
         elif word in ("stop", "abbreviations"):
             bad = bad_line(command.block)
             return ["ok" if bad is None else f"! 6 list: bad line {bad}"]
@@ -244,6 +255,28 @@ class Engine:
             return self.UNKNOWN
         self.documents[name] = told[1] or ""
         return "ok"
+
+    def _watch(self, name, path):
+        if name in self.watches:
+            return f"! 3 name taken: {name}"
+        if len(self.watches) == self.MOST_WATCHES:
+            return f"! 5 full at {self.MOST_WATCHES} watches"
+        first, *lines = self._found("query", path, self.documents)
+        if first.startswith("! "):
+            return first
+        self.watches[name] = path, lines
+        return "ok"
+
+    def _changes(self, name):
+        if name not in self.watches:
+            return [f"! 4 no such name: {name}"]
+        path, kept = self.watches[name]
+        first, *lines = self._found("query", path, self.documents)
+        if first.startswith("! "):
+            return [first]
+        self.watches[name] = path, lines
+        changes = [f"- {line}" for line in kept if line not in lines] + [f"+ {line}" for line in lines if line not in kept]
+        return [f"= {len(changes)}", *changes]
 
     def _found(self, word, path, documents):
         one = self.ONE.fullmatch(path)

@@ -22,7 +22,18 @@ fn named(out: &mut Vec<u8>, word: &str, text: &Line) -> Result<(), AllocError> {
     add(out, text.as_str().as_bytes())
 }
 
-/// The same, and its block.
+/// The same, and the path behind the name.
+fn named_with_path(
+    out: &mut Vec<u8>,
+    word: &str,
+    name: &Line,
+    path: &Line,
+) -> Result<(), AllocError> {
+    named(out, word, name)?;
+    add(out, path.as_str().as_bytes())
+}
+
+/// A command's word, and its name or text, and its block.
 fn with_block(out: &mut Vec<u8>, word: &str, text: &Line, block: &Bytes) -> Result<(), AllocError> {
     named(out, word, text)?;
     add(out, block.as_slice())
@@ -64,13 +75,13 @@ fn show(out: &mut Vec<u8>, command: &Command) -> Result<(), AllocError> {
         Command::Abbreviations { block } => block_alone(out, "abbreviations", block),
         Command::Thesaurus { name, block } => with_block(out, "thesaurus", name, block),
         Command::Query { path } => named(out, "query", path),
-        Command::QueryAt { name, path } => {
-            named(out, "query at", name)?;
-            add(out, path.as_str().as_bytes())
-        }
+        Command::QueryAt { name, path } => named_with_path(out, "query at", name, path),
         Command::Print { path } => named(out, "print", path),
         Command::Mark { name } => named(out, "mark", name),
         Command::Unmark { name } => named(out, "unmark", name),
+        Command::Watch { name, path } => named_with_path(out, "watch", name, path),
+        Command::Changes { name } => named(out, "changes", name),
+        Command::Unwatch { name } => named(out, "unwatch", name),
         Command::Explain { text } => named(out, "explain", text),
         Command::Stats => add(out, b"stats"),
         Command::BadCommand { line } => at_line(out, "bad command", *line),
@@ -208,7 +219,7 @@ const COMMANDS: [CutRow; 14] = [
 ];
 
 /// Sessions of format 2, and their commands.
-const SIZED_COMMANDS: [CutRow; 17] = [
+const SIZED_COMMANDS: [CutRow; 18] = [
     (b"session 2", b""),
     (b"\xEF\xBB\xBFsession 2\r\nstats", b"|stats"),
     (b" session 2\nstats", b"|bad command|1|stats"),
@@ -265,6 +276,10 @@ const SIZED_COMMANDS: [CutRow; 17] = [
         b"|query at|m m|//p|bad command|3|bad command|4|bad name|5|query at|m|//p|bad command|7|bad name|8",
     ),
     (b"session 2\nload 3 x\nab", b"|bad command|2"),
+    (
+        b"session 2\nwatch w //p\nwatch \"w w\" //p q\r\nwatch w\nchanges \"w w\"\nchanges w x\nunwatch w\nunwatch \"w\tw\"\nwatch 1 //p",
+        b"|watch|w|//p|watch|w w|//p q|bad command|4|changes|w w|bad command|6|unwatch|w|bad name|8|watch|1|//p",
+    ),
 ];
 
 /// Cuts the session in two wherever it can be cut, and compares its commands.

@@ -68,4 +68,6 @@ mod selections;
 #[cfg(test)]
 mod sessions;
 #[cfg(test)]
+mod watches;
+#[cfg(test)]
 mod words_found;
