@@ -347,6 +347,14 @@ def test_commands_from_a_pipe(ask: Ask, folder: Path) -> None:
     assert "never" not in ran.stdout
 
 
+def test_a_watch_is_kept_at_the_prompt(ask: Ask, folder: Path) -> None:
+    path = 'doc("voyages.xml")/book[1]/chapter[2]/p[1]'
+    typed = [f'watch "the storms" {STORM}', 'changes "the storms"', f"delete {path}", 'changes "the storms"', 'unwatch "the storms"', "changes other", "watch w collection()//"]
+    shown = ask(folder / "voyages.xml", typed="\n".join(typed) + "\n").stdout.splitlines()
+    assert shown[:6] == ["ok", "nothing came or went", "ok", f"- {path}", "ok", "no document, no mark and no watch is called other"]
+    assert shown[6].startswith("syntax: ") and shown[7:9] == ["    collection()//", "    " + " " * len("collection()//") + "^"]
+
+
 def test_a_mark_is_asked_at_the_prompt(ask: Ask, folder: Path) -> None:
     typed = [
         "mark before",
@@ -360,7 +368,7 @@ def test_a_mark_is_asked_at_the_prompt(ask: Ask, folder: Path) -> None:
     assert shown[:3] == ["ok", "ok", "2 elements"]
     assert shown[3::2][:2] == [f'{folder}/voyages.xml  doc("voyages.xml")/book[1]/chapter[{number}]/p[{number % 2 + 1}]' for number in (1, 2)]
     assert shown[4::2][:2] == ["    (the document was edited since it was read)"] * 2
-    assert shown[7] == "1 element" and shown[-1] == "no document and no mark is called absent"
+    assert shown[7] == "1 element" and shown[-1] == "no document, no mark and no watch is called absent"
     for mark in ("m", '"a mark"'):
         assert f"{folder}/garden.xml:3" in ask(folder / "garden.xml", typed=f"mark {mark}\nquery at {mark} collection()//p\n").stdout
 

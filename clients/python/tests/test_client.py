@@ -16,6 +16,7 @@ from ftq_client import (
     BadCommand,
     BadLine,
     BadName,
+    Changes,
     Counts,
     DocumentFault,
     Done,
@@ -204,6 +205,7 @@ def test_more_lists_than_there_may_be(session: Session) -> None:
         ("! 12 root target", 12, {}),
         ("! 13 limit: nodes", 13, {"kind": "nodes"}),
         ("! 5 full at 4096 documents", 5, {"count": 4096, "kind": "documents"}),
+        ("! 5 full at 64 watches", 5, {"count": 64, "kind": "watches"}),
         ("! 99 something new", 0, {"reply": "! 99 something new"}),
     ],
 )

@@ -95,7 +95,13 @@ def test_a_session_with_names_as_files_have_them(standing: Path) -> None:
         for faulty in ("", "x" * 65, "a\tb", "\x7f"):
             with pytest.raises(BadName):
                 session.drop(faulty)
+        for name in NAMES:
+            session.watch(name, "collection()/a")
         session.drop("a b")
+        for name in NAMES:
+            changes = session.changes(name)
+            assert [it.document for it in changes.went] == ["a b"] and changes.came == ()
+            session.unwatch(name)
         assert [it.document for it in session.query_at("before the end", "collection()/a")] == NAMES
         assert [it.document for it in session.query("collection()/a")] == [it for it in NAMES if it != "a b"]
         session.unmark("before the end")

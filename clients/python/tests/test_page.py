@@ -25,7 +25,7 @@ PROGRAMS = re.findall(r"```python\n(.*?)```\n\nprints\n\n```\n(.*?)```\n", PAGES
 
 
 def test_the_page_has_examples() -> None:
-    assert len(COMMANDS) >= 5 and len(PROGRAMS) == 2
+    assert len(COMMANDS) >= 5 and len(PROGRAMS) == 3
 
 
 @pytest.mark.parametrize(("command", "output"), COMMANDS, ids=lambda it: it[:70])

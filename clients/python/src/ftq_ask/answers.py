@@ -34,7 +34,8 @@ def shown_attributes(located: Located, width: int = 160) -> str:
     return text if len(text) <= width else f"{text[:width]} …"
 
 
-def _row(located: Located, asked: Asked, whole: bool) -> dict[str, Any]:
+def row_of(located: Located, asked: Asked, whole: bool) -> dict[str, Any]:
+    """What an answer for programs has of an element."""
     return {
         "document": located.element.document,
         "file": str(located.path) if located.path else None,
@@ -85,7 +86,7 @@ class Output:
 
     def _found(self, path: str, shown: list[Element]) -> list[dict[str, Any]]:
         asked = asked_of(path, self.collection)
-        return [_row(self.collection.locator.locate(it), asked, self.whole) for it in shown]
+        return [row_of(self.collection.locator.locate(it), asked, self.whole) for it in shown]
 
     def _csv(self, path: str, shown: list[Element]) -> None:
         """A line of names, then one for each element."""
@@ -100,15 +101,19 @@ def write_text(console: Console, collection: Collection, path: str, shown: Itera
     """For each element its file and line, its path, and below them its text with the words that were asked for."""
     asked = asked_of(path, collection)
     for element in shown:
-        located = collection.locator.locate(element)
-        say(console, Text.assemble((located.place, "cyan"), "  ", (element.line, "dim")))
-        pieces = [Piece(located.text)] if whole and located.text else shortened(located.shown, asked)
-        if located.note:
-            say(console, Text(f"    ({located.note})", "yellow"))
-        if pieces:
-            say(console, Text.assemble("    ", *((it.text, "bold green") if it.asked else it.text for it in pieces)))
-        elif located.attributes:
-            say(console, Text(f"    {shown_attributes(located)}", "dim"))
+        write_element(console, collection.locator.locate(element), asked, whole)
+
+
+def write_element(console: Console, located: Located, asked: Asked, whole: bool, front: Text = Text()) -> None:
+    """An element as `write_text` writes it, behind a text in its first line."""
+    say(console, Text.assemble(front, (located.place, "cyan"), "  ", (located.element.line, "dim")))
+    pieces = [Piece(located.text)] if whole and located.text else shortened(located.shown, asked)
+    if located.note:
+        say(console, Text(f"    ({located.note})", "yellow"))
+    if pieces:
+        say(console, Text.assemble("    ", *((it.text, "bold green") if it.asked else it.text for it in pieces)))
+    elif located.attributes:
+        say(console, Text(f"    {shown_attributes(located)}", "dim"))
 
 
 def counted(count: int) -> str:
@@ -147,8 +152,8 @@ def say_refusal(console: Console, path: str, refusal: Refusal, fault_of: Callabl
 _WORDS: dict[int, Callable[[Refusal], str]] = {
     1: lambda it: "this is no command of the language",
     2: lambda it: "a name has 1 to 64 characters, none of them a control character; it stands between quotes where one isn't a letter, a digit, ., _ or -",
-    3: lambda it: f"there is one called {it.name}: drop it first (a mark by unmark), or take another name",
-    4: lambda it: f"no document and no mark is called {it.name}",
+    3: lambda it: f"there is one called {it.name}: drop it first (a mark by unmark, a watch by unwatch), or take another name",
+    4: lambda it: f"no document, no mark and no watch is called {it.name}",
     8: lambda it: f"there is no document {it.name}; files lists those that there are",
     9: lambda it: f"there is no list {it.name}: load it with stop {name_word(it.name)} or thesaurus {name_word(it.name)}, or by --stop",
 }

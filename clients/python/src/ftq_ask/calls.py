@@ -12,7 +12,7 @@ FORMATS = ("text", "json", "csv", "paths")
 ASK = """Asks a folder of XML: loads its files, and answers the questions of --query, or those that are typed at a prompt.
 
 Exit statuses with --query: 0 where something was found, 1 where nothing was, 2 where something went wrong, be it a question or a
-file that couldn't be taken. `ask serve FOLDER` serves a folder to a browser instead (ask serve --help).
+file that couldn't be taken. --follow goes on until Ctrl-C. `ask serve FOLDER` serves a folder to a browser instead (ask serve --help).
 """
 
 
@@ -21,7 +21,8 @@ def parser() -> argparse.ArgumentParser:
     it = argparse.ArgumentParser(prog="ask", description=ASK, formatter_class=argparse.RawDescriptionHelpFormatter)
     add_collection(it)
     it.add_argument("--query", metavar="PATH", action="append", default=[], help="answers this question and ends; may be given again")
-    it.add_argument("--format", choices=FORMATS, default="text", help="how the answer to --query is written")
+    it.add_argument("--follow", metavar="PATH", action="append", default=[], help="tells what comes and goes in the answer as files change; may be given again")
+    it.add_argument("--format", choices=FORMATS, default="text", help="how the answer to --query or --follow is written")
     it.add_argument("--count", action="store_true", help="writes how many elements there are, and nothing else")
     it.add_argument("--limit", type=number, metavar="N", help="shows N elements at most of each answer")
     it.add_argument("--offset", type=number, default=0, metavar="N", help="leaves out the first N elements")
@@ -67,12 +68,18 @@ def seconds(word: str) -> float:
 
 
 def read_words(arguments: list[str]) -> argparse.Namespace:
-    """The words of a call. Those that say how the answer to --query is written have no meaning at the prompt, and are faulty without it."""
+    """The words of a call. Those that say how an answer is written have no meaning at the prompt, and are faulty without a question."""
     words = parser()
     options = words.parse_args(arguments)
-    for name in ("count", "format", "limit", "offset", "whole"):
+    for name in ("count", "limit", "offset"):
         if not options.query and getattr(options, name) != words.get_default(name):
             words.error(f"--{name} is for the answer to --query, and there is none")
+    for name in ("format", "whole"):
+        if not (options.query or options.follow) and getattr(options, name) != words.get_default(name):
+            words.error(f"--{name} is for the answer to --query or --follow, and there is none")
+    for name in ("query", "workers", "scheduler") if options.follow else ():
+        if getattr(options, name):
+            words.error(f"--follow goes on with one program, and has no place beside --{name}")
     return options
 
 

@@ -122,6 +122,14 @@ class Collection:
             self.vocabulary.remove(source.vocabulary)
             self.bytes -= source.size
 
+    def renew(self, new: "Collection") -> None:
+        """Its documents are from now on those that this one tells of."""
+        for name in ("choice", "_names", "_by_bare_names", "untaken", "known", "sources", "vocabulary", "bytes"):
+            setattr(self, name, getattr(new, name))
+        self.locator = Locator(self.sources, self.rules)
+        self.spellings = self.spellings.again()
+        self.edition += 1
+
     def send_stems(self) -> None:
         """Gives the stems to the program, less those lines that it doesn't take for a word and its stem."""
         if not self.stems:
@@ -179,18 +187,22 @@ class Collection:
         return path if front is None or name == written else f"doc({quoted(name)}){path[front.end() :]}"
 
     def _lines(self, front: str, path: str) -> list[str]:
-        """The lines of the reply to a command. The stems of the words that its path asks for are sent before, where they are new. A path that
-        is only faulty as it is sent is asked for as it is typed."""
+        """The lines of the reply to a command with this path at its end."""
+        return list(self.reply_to(front, path).lines)
+
+    def reply_to(self, front: str, path: str) -> Any:
+        """The reply to a command with this path at its end. The stems of the words that it asks for are sent before, where they are new. A path
+        that is only faulty as it is sent is asked for as it is typed."""
         sent = self.sent(path)
         if self.stems and is_said(path, "using", "stemming") and self.stems.add_asked(sent):
             self.send_stems()
         for asked in dict.fromkeys((self._of_file(sent), self._of_file(path))):
             if asked != path:
                 try:
-                    return list(self.engine.command(front + asked).lines)
+                    return self.engine.command(front + asked)
                 except QueryFault:
                     pass
-        return list(self.engine.command(front + path).lines)
+        return self.engine.command(front + path)
 
     def fault_of(self, path: str) -> Fault | None:
         """The fault that the program finds in a path, if there is one. It is asked of a document that can't be there, so that nothing is

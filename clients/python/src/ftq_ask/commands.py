@@ -1,4 +1,4 @@
-"""Asks a folder of XML: loads its files, and answers the questions of --query, or those that are typed at a prompt."""
+"""Asks a folder of XML: loads its files, and answers the questions of --query or --follow, or those that are typed at a prompt."""
 
 from __future__ import annotations
 
@@ -36,6 +36,8 @@ def main(arguments: list[str]) -> int:
 
         return serve(arguments[1:])
     options = read_words(arguments)
+    if options.follow:
+        from .following import follow
     errors = Console(stderr=True)
     try:
         abbreviations = Abbreviations(options.abbreviations)
@@ -46,12 +48,18 @@ def main(arguments: list[str]) -> int:
         return FAULT
     start = time.monotonic()
     collection.reader = reader_of(options)
-    try:
+
+    def begin() -> None:
         load(collection, options, abbreviations, errors)
         tell(collection, errors)
         if not options.query:
             answers.say(errors, loaded(collection, start))
         collection.engine.give_up_after(options.timeout)
+
+    try:
+        if options.follow:
+            return follow(collection, options, begin, errors)
+        begin()
         if options.query:
             return answer_all(collection, options, errors)
         from .prompt import converse

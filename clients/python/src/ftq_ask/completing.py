@@ -9,12 +9,15 @@ from prompt_toolkit.completion import CompleteEvent, Completer, Completion
 from prompt_toolkit.document import Document
 
 from .collection import Collection
-from .paths import missing_end
+from .paths import STRING, missing_end
 
 ASKING = ["help", "quit", "more", "files", "names"]
 """The words of the prompt itself."""
 
-LANGUAGE = ["query", "print", "load", "drop", "stop", "stems", "thesaurus", "abbreviations", "explain", "stats", "mark", "unmark", "insert", "replace", "delete"]
+LANGUAGE = [
+    *["query", "print", "load", "drop", "stop", "stems", "thesaurus", "abbreviations", "explain", "stats", "mark", "unmark", "watch", "changes", "unwatch"],
+    *["insert", "replace", "delete"],
+]
 """The first words of the language's commands."""
 
 OPTIONS = [
@@ -35,6 +38,8 @@ OPTIONS = [
 ]
 BEHIND_A_STRING = ["ftand ", "ftor ", "ftand ftnot ", "using ", "occurs ", "any word", "all words", "all", "phrase"]
 TIMES = ["exactly ", "at least ", "at most ", "from "]
+BEHIND_TIMES = ["ftand ", "ftor ", "ftand ftnot ", "using "]
+UNITS = ["words", "sentences", "paragraphs"]
 
 _NAME = r"[\w:.-]*"
 
@@ -48,6 +53,9 @@ class PathCompleter(Completer):
             (re.compile(rf"@({_NAME})$"), lambda: sorted(known.attributes)),
             (re.compile(r"(?:^|\s)doc\s*\(\s*[\"']([^\"']*)$"), lambda: [it.replace('"', '""') for it in collection.sources]),
             (re.compile(r"\busing\s+([\w ]*)$"), lambda: OPTIONS),
+            (re.compile(r"\boccurs\s+(?:exactly|at\s+least|at\s+most|from\s+[0-9]+\s+to)\s+[0-9]+\s+(\w*)$"), lambda: ["times "]),
+            (re.compile(r"\boccurs\s+[^\"'\[\]]*\stimes\s+([a-z ]*)$"), lambda: BEHIND_TIMES),
+            (re.compile(r"\bwindow\s+[0-9]+\s+(\w*)$"), lambda: UNITS),
             (re.compile(r"\boccurs\s+([\w ]*)$"), lambda: TIMES),
             (re.compile(r"\bcontains\s+(\w*)$"), lambda: ["text "]),
             (re.compile(r"[\"'}]\s+(\w*)$"), lambda: BEHIND_A_STRING),
@@ -64,7 +72,7 @@ class PathCompleter(Completer):
         if first:
             yield from self._from(first[1], [*(f"{it} " for it in LANGUAGE), *ASKING, "collection()", 'doc("'])
             return
-        if re.fullmatch(rf"\s*(?:query|print|delete|replace)\s+({_NAME})", text):
+        if re.fullmatch(rf"\s*(?:query|print|delete|replace|watch\s+(?:{STRING}|\S+))\s+({_NAME})", text):
             yield from self._from(text.split()[-1] if text[-1] not in " \t" else "", ["collection()", 'doc("'])
             return
         inside_string = missing_end(text)[:1] in ("'", '"')

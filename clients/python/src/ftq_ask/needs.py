@@ -15,6 +15,7 @@ PACKAGES = {
     "starlette": "python3-starlette",
     "uvicorn": "python3-uvicorn",
     "jinja2": "python3-jinja2",
+    "watchdog": "python3-watchdog",
 }
 """The package that brings each module."""
 
@@ -24,10 +25,13 @@ USUAL = "apt-get install python3-lxml python3-prompt-toolkit python3-rich python
 SERVING = "apt-get install python3-starlette python3-uvicorn python3-jinja2"
 """The line that installs what serve needs besides."""
 
+FOLLOWING = "apt-get install python3-watchdog"
+"""The line that installs what --follow needs besides."""
+
 CLUSTER = "apt-get install python3-distributed"
 """The line that installs what --scheduler needs besides."""
 
-EXTRAS = {"ask": USUAL, "serve": SERVING, "cluster": CLUSTER}
+EXTRAS = {"ask": USUAL, "serve": SERVING, "follow": FOLLOWING, "cluster": CLUSTER}
 """What this package calls those needs, where it is installed by pip."""
 
 

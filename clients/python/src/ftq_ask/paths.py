@@ -56,12 +56,15 @@ def missing_end(path: str) -> str:
 def path_in(line: str) -> str:
     """The path or the selection of a command, from whose first character the place of a fault is counted."""
     words = re.findall(r"[^ \t]+", line)
-    before = 3 if words[:2] == ["query", "at"] else 2 if words[:1] == ["insert"] else 1
+    before = 3 if words[:2] == ["query", "at"] else 2 if words[:1] in (["insert"], ["watch"]) else 1
     told = re.match(rf"[ \t]*(?:(?:\"(?:[^\"]|\"\")*\"|[^ \t]+)[ \t]+){{{before}}}(.*)", line, re.DOTALL)
     return told[1] if told else ""
 
 
-DOCUMENTS = re.compile(r"\s*(?:collection\s*\(\s*\)|doc\s*\(\s*(?:\"(?:[^\"]|\"\")*\"|'(?:[^']|'')*')\s*\))")
+STRING = r"(?:\"(?:[^\"]|\"\")*\"|'(?:[^']|'')*')"
+"""A string of a path, as a pattern."""
+
+DOCUMENTS = re.compile(rf"\s*(?:collection\s*\(\s*\)|doc\s*\(\s*{STRING}\s*\))")
 """What a path begins with."""
 
 

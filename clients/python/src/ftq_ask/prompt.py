@@ -14,7 +14,7 @@ from prompt_toolkit.key_binding import KeyBindings, KeyPressEvent
 from rich.console import Console
 from rich.text import Text
 
-from ftq_client import LATEST_FORMAT, ClientError, Element, ProgramEnded, Refusal, Said, TimedOut
+from ftq_client import LATEST_FORMAT, ClientError, Element, Found, ProgramEnded, Refusal, Said, TimedOut
 from ftq_client.blocks import BLOCK_WORDS
 
 from . import answers
@@ -41,6 +41,7 @@ names                   the names of elements and attributes, and in how many do
 load NAME, stop NAME, stems, thesaurus NAME, abbreviations
                         lines follow, up to one that is a single period
 drop NAME               takes a document out
+watch NAME PATH         keeps a question; changes NAME tells what came (+) and went (-) since, unwatch NAME gives it up
 quit                    ends (also Ctrl-D)
 
 Open brackets and strings go on in the next line; an empty line ends them. Tab completes. docs/QUERIES.md has the whole language."""
@@ -130,7 +131,11 @@ class Conversation:
         except ValueError as error:
             answers.say(self.out, Text(str(error), "red"))
             return
-        answers.say(self.out, reply.text if isinstance(reply, Said) else "ok")
+        if isinstance(reply, Found):
+            for it in reply.lines or ("nothing came or went",):
+                answers.say(self.out, it)
+        else:
+            answers.say(self.out, reply.text if isinstance(reply, Said) else "ok")
 
     def _block(self, text: str) -> None:
         """A command with a block: its first line, then the block's up to the period."""

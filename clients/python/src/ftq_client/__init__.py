@@ -39,7 +39,7 @@ from .faults import (
 from .folders import Folder
 from .names import LATEST_FORMAT, Names, command_words, name_word
 from .program import find_program
-from .replies import Counts, Done, Element, Found, Reply, Said, Step
+from .replies import Changes, Counts, Done, Element, Found, Reply, Said, Step
 from .session import Engine, Position, Session
 
 __version__ = "0.1.0"
@@ -49,6 +49,7 @@ __all__ = [
     "BadCommand",
     "BadLine",
     "BadName",
+    "Changes",
     "ClientError",
     "Counts",
     "DocumentFault",

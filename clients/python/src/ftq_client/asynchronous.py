@@ -12,7 +12,7 @@ from .blocks import Content
 from .folders import Folder
 from .names import LATEST_FORMAT
 from .program import MOST_BYTES
-from .replies import Counts, Element, Reply
+from .replies import Changes, Counts, Element, Reply
 from .session import Position, Session
 
 Answer = TypeVar("Answer")
@@ -99,6 +99,18 @@ class AsyncSession:
     async def query_at(self, mark: str, path: str) -> list[Element]:
         """As `Session.query_at`."""
         return await self._in_turn(lambda: self.session.query_at(mark, path))
+
+    async def watch(self, name: str, path: str) -> None:
+        """As `Session.watch`."""
+        await self._in_turn(lambda: self.session.watch(name, path))
+
+    async def changes(self, name: str) -> Changes:
+        """As `Session.changes`."""
+        return await self._in_turn(lambda: self.session.changes(name))
+
+    async def unwatch(self, name: str) -> None:
+        """As `Session.unwatch`."""
+        await self._in_turn(lambda: self.session.unwatch(name))
 
     async def stats(self) -> Counts:
         """As `Session.stats`."""

@@ -89,19 +89,19 @@ class BadName(Refusal):
 
 
 class NameTaken(Refusal):
-    """There is a document of that `name`."""
+    """There is a document, a mark or a watch of that `name`."""
 
     number, kind = 3, "name taken"
 
 
 class NoSuchName(Refusal):
-    """There is no document of that `name`."""
+    """There is no document, no mark or no watch of that `name`."""
 
     number, kind = 4, "no such name"
 
 
 class Full(Refusal):
-    """There are as many as there may be: `count` of what `kind` says (`documents`, `marks`, `stop lists`, `thesauri`)."""
+    """There are as many as there may be: `count` of what `kind` says (`documents`, `marks`, `watches`, `stop lists`, `thesauri`)."""
 
     number, kind = 5, "full"
 

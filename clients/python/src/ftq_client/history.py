@@ -6,8 +6,14 @@ from dataclasses import dataclass
 
 from .names import command_words
 
-LOOKS_BACK = frozenset({"insert", "replace", "delete", "mark", "unmark"})
+LOOKS_BACK = frozenset({"insert", "replace", "delete", "mark", "watch"})
 """The commands whose effect depends on all that came before them."""
+
+TAKEN_BACK = {"unmark": "mark", "unwatch": "watch"}
+"""The commands that take back all that another one of the same name has done."""
+
+LISTS = frozenset({"stop", "thesaurus", "stems", "abbreviations"})
+"""The commands that give a list, in the place of the one before."""
 
 
 @dataclass(frozen=True)
@@ -37,20 +43,34 @@ class History:
         return [it.command for it in self._kept]
 
     def add(self, line: str, command: bytes, session_format: int) -> None:
-        """Takes note of an accepted command of a session of that format that was answered by `ok`.
+        """Takes note of an accepted command of a session of that format that was answered by `ok`, or of `changes`.
 
-        A document that was dropped and a list that was replaced are forgotten, unless an edit or a mark stands between that
-        may have looked at them.
+        A document that was dropped and a list that was replaced are forgotten, unless an edit, a mark or a watch stands between that may have
+        looked at them. A mark and a watch are forgotten when they are given up; a watch that was asked for its changes is as one that is set now.
         """
         words = command_words(line, session_format)
-        kind, name = words[0], words[1] if len(words) > 1 else ""
-        if self._plain and kind == "drop":
-            self._forget("load", name)
+        self._add(Kept(words[0], words[1] if len(words) > 1 else "", command))
+
+    def tidy(self) -> None:
+        """Forgets also what stood there for the sake of marks and watches that are forgotten, or set later."""
+        kept, self._kept, self._plain = self._kept, [], True
+        for it in kept:
+            self._add(it)
+
+    def _add(self, it: Kept) -> None:
+        if it.kind in TAKEN_BACK:
+            self._forget(TAKEN_BACK[it.kind], it.name)
             return
-        if self._plain and kind in ("stop", "thesaurus", "stems", "abbreviations"):
-            self._forget(kind, name)
-        self._plain = self._plain and kind not in LOOKS_BACK
-        self._kept.append(Kept(kind, name, command))
+        if it.kind == "drop" and self._plain:
+            self._forget("load", it.name)
+            return
+        if it.kind == "changes":
+            it = next(watch for watch in self._kept if (watch.kind, watch.name) == ("watch", it.name))
+            self._forget("watch", it.name)
+        if it.kind in LISTS and self._plain:
+            self._forget(it.kind, it.name)
+        self._plain = self._plain and it.kind not in LOOKS_BACK
+        self._kept.append(it)
 
     def _forget(self, kind: str, name: str) -> None:
         self._kept = [it for it in self._kept if (it.kind, it.name) != (kind, name)]

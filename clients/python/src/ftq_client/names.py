@@ -30,9 +30,10 @@ def name_word(name: str, session_format: int = LATEST_FORMAT) -> str:
 
 def command_words(line: str, session_format: int = LATEST_FORMAT) -> list[str]:
     """The words of a command's line; in format 2 a name between quotes is one word, without them."""
+    text = line.removeprefix("\ufeff").removesuffix("\r")
     if session_format == 1:
-        return [it for it in re.split(r"[ \t]+", line.removesuffix("\r")) if it]
-    return [it[2] or it[1].replace('""', '"') for it in _WORD.finditer(line.removesuffix("\r"))]
+        return [it for it in re.split(r"[ \t]+", text) if it]
+    return [it[2] or it[1].replace('""', '"') for it in _WORD.finditer(text)]
 
 
 class Names:

@@ -39,6 +39,28 @@ class Element:
         return cls(parts[1].replace('""', '"'), steps, line)
 
 
+@dataclass(frozen=True)
+class Changes:
+    """How the answer to a standing query differs from the one before: the elements that `went` and those that `came`, each in the order of its
+    answer. Elements count by their places: one that has got another place went and came. It is false where nothing has changed."""
+
+    went: tuple[Element, ...]
+    came: tuple[Element, ...]
+
+    @classmethod
+    def read(cls, lines: tuple[str, ...]) -> "Changes":
+        """The changes that the lines of a reply tell; a `ValueError` where one is of another form."""
+        rows: dict[str, list[Element]] = {"- ": [], "+ ": []}
+        for line in lines:
+            if line[:2] not in rows:
+                raise ValueError(f"no line of changes: {line!r}")
+            rows[line[:2]].append(Element.read(line[2:]))
+        return cls(tuple(rows["- "]), tuple(rows["+ "]))
+
+    def __bool__(self) -> bool:
+        return bool(self.went or self.came)
+
+
 def text_of(printed: str) -> str:
     """All text of an element as `print` writes it. A colon is a character of a name there, so that no prefix has to be declared."""
     texts: list[str] = []

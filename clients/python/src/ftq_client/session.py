@@ -13,9 +13,9 @@ from .blocks import Content, command_bytes
 from .faults import ClientError, ProgramEnded, Refusal, SessionClosed, SessionFull, TimedOut
 from .folders import Folder, named_files
 from .history import History
-from .names import LATEST_FORMAT, OPENINGS, name_word
+from .names import LATEST_FORMAT, OPENINGS, command_words, name_word
 from .program import MOST_BYTES, Process, find_program
-from .replies import Counts, Done, Element, Found, Reply, Said, text_of
+from .replies import Changes, Counts, Done, Element, Found, Reply, Said, text_of
 
 Wanted = TypeVar("Wanted", Done, Found, Said)
 
@@ -165,6 +165,19 @@ class Session:
         found = self._said(self.command(f"query at {self._word(mark)} {path}"), Found)
         return [Element.read(line) for line in found.lines]
 
+    def watch(self, name: str, path: str) -> None:
+        """Keeps the path as a standing query under a name, with the elements that it selects now, for `changes`. As `changes` and `unwatch` it is
+        a `BadCommand` in a session of format 1."""
+        self._said(self.command(f"watch {self._word(name)} {path}"), Done)
+
+    def changes(self, name: str) -> Changes:
+        """How the elements that a standing query selects differ from those of the last time: of `watch`, or of `changes` since."""
+        return Changes.read(self._said(self.command(f"changes {self._word(name)}"), Found).lines)
+
+    def unwatch(self, name: str) -> None:
+        """Gives the standing query up."""
+        self._said(self.command(f"unwatch {self._word(name)}"), Done)
+
     def stats(self) -> Counts:
         """How much the session holds."""
         return Counts.read(self._said(self.command("stats"), Said).text)
@@ -192,7 +205,7 @@ class Session:
             process.kill()
             self._process = None
             raise
-        if isinstance(reply, Done):
+        if isinstance(reply, Done) or command_words(line, self.session_format)[0] == "changes":
             self._history.add(line, command, self.session_format)
         return reply
 
@@ -243,6 +256,7 @@ class Session:
         self._interrupted = False
         if self._process and self._process.sent + size <= self.limit:
             return self._process
+        self._history.tidy()
         again = len(OPENINGS[self.session_format]) + self._history.size
         if again + size > self.limit:
             raise SessionFull(f"documents and lists of {again:,} bytes and a command of {size:,} are more than the {self.limit:,} of one session")

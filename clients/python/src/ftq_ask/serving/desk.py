@@ -65,8 +65,6 @@ class Desk:
         """How many questions were stopped by their names."""
         self.calls = 0
         """How many calls of tools/ask were answered."""
-        self.held = {name: (it.path, it.digest) for name, it in collection.sources.items()}
-        """Of each document that the programs hold the file and the digest that it had."""
         self.freshen: Callable[[], None] = lambda: None
         """Takes in what has changed in the files since they were looked at."""
 
@@ -150,11 +148,7 @@ class Desk:
     def renew(self, new: Collection) -> None:
         """From now on questions are asked of the collection as this one tells of it."""
         with self._lock:
-            old = self.collection
-            for name in ("choice", "_names", "_by_bare_names", "untaken", "known", "sources", "vocabulary", "bytes"):
-                setattr(old, name, getattr(new, name))
-            old.spellings = old.spellings.again()
-            old.edition += 1
+            self.collection.renew(new)
             self._answers.clear()
 
     def files(self) -> Iterator[tuple[str, Path]]:
