@@ -5,6 +5,7 @@ import random
 # Words of one to four syllables; the word of rank r is drawn with a weight of 1 / r.
 SYLLABLES = "ba be bi bo ca ce co da de di do fa fi go ha he in ka la le lo ma me mi na ne no on pa pe ra re ri ro sa se si so ta te ti to un va vi".split()
 VOCABULARY = 20_000
+SEED = 20261127
 
 
 class Words:
@@ -63,7 +64,7 @@ def book(words, number):
     return head + "".join(chapter(words, k) for k in range(1, 4)) + "</book>\n"
 
 
-def books(count, seed=20261127):
+def books(count, seed=SEED):
     """Books of about ten thousand bytes each."""
     words = Words(seed)
     return [book(words, number).encode("utf-8") for number in range(1, count + 1)]
