@@ -33,10 +33,10 @@ count_map test f (x ∷ xs) =
 
 module _ (unit : ℕ → ℕ) (span : Span) (field : Hit → Bool) where
   -- how many of the hits of a group lie in a field
-  abbrev much : ℕ × List (List Wanted) → ℕ
+  abbrev pub much : ℕ × List (List Wanted) → ℕ
   much group = length (filter (λ at. field (told_hit unit at)) (group_spots span group.0 group.1))
 
-  groups_much : {A : Type 0} (group_of : A → ℕ × List (List Wanted)) (xs : List A)
+  pub groups_much : {A : Type 0} (group_of : A → ℕ × List (List Wanted)) (xs : List A)
       → length (filter field (flat_map (λ x. map (told_hit unit) (group_spots span (group_of x).0 (group_of x).1)) xs)) ≡ sum_by much (map group_of xs)
   groups_much group_of [] = refl
   groups_much group_of (x ∷ xs) =
@@ -47,7 +47,7 @@ module _ (unit : ℕ → ℕ) (span : Span) (field : Hit → Bool) where
       ∙ (λ i. count_map field (told_hit unit) (group_spots span (group_of x).0 (group_of x).1) i + groups_much group_of xs i)
       ∙ sym (sum_by-cons much (group_of x) (map group_of xs))
 
-  phrases_much : (phrases : List (List (List Wanted)))
+  pub phrases_much : (phrases : List (List (List Wanted)))
       → length (filter field (flat_map (λ variants. map (told_hit unit) (spots_of span variants)) phrases)) ≡ sum_by much (flat_map by_length phrases)
   phrases_much [] = refl
   phrases_much (variants ∷ rest) =

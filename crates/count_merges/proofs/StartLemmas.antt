@@ -36,8 +36,8 @@ module _ (unit : ℕ → ℕ) (window : Window) (from : ℕ) where
         sum_through parts_of (started_parts unit window from) now items is (λ item. sum_by (group_left stand) item.groups)
         ∙ (λ i. sum_by (λ item. sum_by-map (group_left stand) (started unit window from) item.groups.items i) items) in
         record {
-          lists = map_through parts_of (started_parts unit window from) now items is (λ item. map (group_lists stand) item.groups)
-              ∙ (λ i. map (λ item. map-map (group_lists stand) (started unit window from) item.groups.items i) items);
+          lists = map_through parts_of (started_parts unit window from) now items is (λ item. (item.least, item.most, map (group_lists stand) item.groups))
+              ∙ (λ i. map (λ item. (item.least, item.most, map-map (group_lists stand) (started unit window from) item.groups.items i)) items);
           plain = all_through parts_of (started_parts unit window from) now items is (λ item. list_all (is_group_plain plain) item.groups)
               ∙ (λ i. list_all (λ item. list_all-map (is_group_plain plain) (started unit window from) item.groups.items i) items);
           counted = λ h. omega (arith, left);

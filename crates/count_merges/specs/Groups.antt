@@ -74,12 +74,16 @@ backs_of stand items = map (λ item. map (λ group. wanted_words stand group.bac
 abbrev pub VariantLists : Type 0
 VariantLists = List (List (Option (List (List Hit))))
 
--- those of each group, which moves never change
-abbrev pub group_lists : {H : Type 0} → (H → HitPlace) → VariantGroup H → VariantLists × VariantLists
-group_lists stand group = (all_lists stand group.front.items, all_lists stand group.back.items)
+-- what moves never change of a group: how many words it counts, and the lists of its sources
+abbrev pub group_lists : {H : Type 0} → (H → HitPlace) → VariantGroup H → ℕ × VariantLists × VariantLists
+group_lists stand group = (group.words, all_lists stand group.front.items, all_lists stand group.back.items)
 
-abbrev pub lists_of_items : {H : Type 0} → (H → HitPlace) → List (CountedItem H) → List (List (VariantLists × VariantLists))
-lists_of_items stand items = map (λ item. map (group_lists stand) item.groups.items) items
+-- and of an item: its bounds, and what stays of its groups
+abbrev pub item_lists : {H : Type 0} → (H → HitPlace) → CountedItem H → ℕ × Option ℕ × List (ℕ × VariantLists × VariantLists)
+item_lists stand item = (item.least, item.most, map (group_lists stand) item.groups.items)
+
+abbrev pub lists_of_items : {H : Type 0} → (H → HitPlace) → List (CountedItem H) → List (ℕ × Option ℕ × List (ℕ × VariantLists × VariantLists))
+lists_of_items stand items = map (item_lists stand) items
 
 -- whether all sources are plain
 abbrev pub is_group_plain : {H : Type 0} → (H → Bool) → VariantGroup H → Bool

@@ -7,3 +7,4 @@ pub mod FitsLemmas
 pub mod ItemLemmas
 pub mod CountedLemmas
 pub mod ToldLemmas
+pub mod AcceptedLemmas

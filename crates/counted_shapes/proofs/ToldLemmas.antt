@@ -1,17 +1,15 @@
 -- Items whose hits are told from another number on fit alike; what lies in a window by its first and its last number.
-use Rattle.std.proofs.Common.{◌≡◌, refl, ap, sym, ◌∙◌, ℕ, suc, ◌+◌, List, [], ◌∷◌, ◌++◌, Bool, true, false, ◌&&◌, ◌||◌, length, arith}
+use Rattle.std.proofs.Common.{◌≡◌, refl, ap, sym, ◌∙◌, ℕ, suc, ◌+◌, List, [], ◌∷◌, ◌++◌, Bool, true, false, true≢false, ◌&&◌, ◌||◌, length, arith}
 use Rattle.std.specs.Prelude.{◌==◌, map, filter, cond, nat_le, nat_lt}
 use Rattle.std.specs.List.{list_any, list_all}
-use Rattle.std.proofs.lemmas.Bool.{and_parts, eqb-true}
+use Rattle.std.proofs.lemmas.Bool.{and_from, and_parts, eqb-true}
 use Rattle.std.proofs.lemmas.Bool.Decides.{nat_tests}
-use Rattle.std.proofs.lemmas.List.{map-append}
-use Rattle.std.proofs.lemmas.List.Folds.{list_all-append}
 use Rattle.ft_base.specs.declared.hit.Hit.{Hit}
 use Rattle.ft_base.specs.declared.unit.TextUnit.{TextUnit}
 use Rattle.all_matches.specs.Positions.{start_in, end_in}
 use Rattle.counted_shapes.specs.Fields.{is_in_window, in_window, in_unit}
 use Rattle.counted_shapes.specs.Shapes.{Counted, is_at_most, has_enough, all_hits, events, fit_in_window, fit_in_unit}
-use Rattle.counted_shapes.specs.Told.{is_told_from, told_items}
+use Rattle.counted_shapes.specs.Told.{IsTold, are_told_from, is_told_from}
 
 lies_whole : (size last s e : ℕ) → nat_le s e ≡ true
     → ((nat_le s last && nat_lt last (s + size)) && (nat_le e last && nat_lt last (e + size))) ≡ (nat_le e last && nat_lt last (s + size))
@@ -39,70 +37,83 @@ moved_unit before n s e s' e' h = grind (arith, nat_tests)
 moved_end : (before size s s' : ℕ) → s' + before ≡ s → (s' + size) + before ≡ s + size
 moved_end before size s s' h = omega (arith, h)
 
-module _ (before : ℕ) (kind : TextUnit) (told : Hit → Hit) where
+module _ (before : ℕ) (kind : TextUnit) where
   -- fields that are told too
-  module _ (fields : ℕ → Hit → Bool) (same : (n : ℕ) (hit : Hit) → is_told_from before kind told hit ≡ true → fields n (told hit) ≡ fields (n + before) hit) where
-    count_told : (n : ℕ) (hits : List Hit) → list_all (is_told_from before kind told) hits ≡ true
-        → length (filter (fields n) (map told hits)) ≡ length (filter (fields (n + before)) hits)
-    count_told n [] h = refl
-    count_told n (hit ∷ rest) h =
-        let parts = and_parts (is_told_from before kind told hit) (list_all (is_told_from before kind told) rest) h in
-        ap (λ b. length (cond b (told hit ∷ filter (fields n) (map told rest)) (filter (fields n) (map told rest)))) (same n hit parts.0)
-        ∙ one (fields (n + before) hit) (count_told n rest parts.1)
+  module _ (fields : ℕ → Hit → Bool) (same : (n : ℕ) (one hit : Hit) → is_told_from before kind one hit ≡ true → fields n one ≡ fields (n + before) hit) where
+    count_told : (n : ℕ) (told hits : List Hit) → are_told_from before kind told hits ≡ true
+        → length (filter (fields n) told) ≡ length (filter (fields (n + before)) hits)
+    count_told n [] [] h = refl
+    count_told n [] (hit ∷ hits) h = absurd (true≢false (sym h))
+    count_told n (one ∷ told) [] h = absurd (true≢false (sym h))
+    count_told n (one ∷ told) (hit ∷ hits) h =
+        let parts = and_parts (is_told_from before kind one hit) (are_told_from before kind told hits) h in
+        ap (λ b. length (cond b (one ∷ filter (fields n) told) (filter (fields n) told))) (same n one hit parts.0)
+        ∙ by_test (fields (n + before) hit) (count_told n told hits parts.1)
       where
-        one : (b : Bool) → length (filter (fields n) (map told rest)) ≡ length (filter (fields (n + before)) rest)
-            → length (cond b (told hit ∷ filter (fields n) (map told rest)) (filter (fields n) (map told rest)))
-            ≡ length (cond b (hit ∷ filter (fields (n + before)) rest) (filter (fields (n + before)) rest))
-        one true e = ap suc e
-        one false e = e
+        by_test : (b : Bool) → length (filter (fields n) told) ≡ length (filter (fields (n + before)) hits)
+            → length (cond b (one ∷ filter (fields n) told) (filter (fields n) told))
+            ≡ length (cond b (hit ∷ filter (fields (n + before)) hits) (filter (fields (n + before)) hits))
+        by_test true e = ap suc e
+        by_test false e = e
 
-    items_told : (n : ℕ) (items : List Counted) → list_all (is_told_from before kind told) (all_hits items) ≡ true
-        → list_all (has_enough (fields n)) (told_items told items) ≡ list_all (has_enough (fields (n + before))) items
-    items_told n [] h = refl
-    items_told n (item ∷ rest) h =
-        let parts = and_parts (list_all (is_told_from before kind told) item.hits) (list_all (is_told_from before kind told) (all_hits rest))
-        (sym (list_all-append (is_told_from before kind told) item.hits (all_hits rest)) ∙ h) in
-        λ i. (nat_le item.least (count_told n item.hits parts.0 i) && is_at_most item.most (count_told n item.hits parts.0 i)) && items_told n rest parts.1 i
+    items_told : {A : Type 0} (told plain : A → Counted) → ((a : A) → IsTold before kind (told a) (plain a)) → (n : ℕ) (items : List A)
+        → list_all (has_enough (fields n)) (map told items) ≡ list_all (has_enough (fields (n + before))) (map plain items)
+    items_told told plain is n [] = refl
+    items_told told plain is n (item ∷ rest) =
+        let count = count_told n (told item).hits (plain item).hits (is item).hits in
+        λ i. (nat_le ((is item).least i) (count i) && is_at_most ((is item).most i) (count i)) && items_told told plain is n rest i
 
-  all_told : (items : List Counted) → all_hits (told_items told items) ≡ map told (all_hits items)
-  all_told [] = refl
-  all_told (item ∷ rest) = ap (λ hits. map told item.hits ++ hits) (all_told rest) ∙ sym (map-append told item.hits (all_hits rest))
+  told_append : (told hits others more : List Hit) → are_told_from before kind told hits ≡ true → are_told_from before kind others more ≡ true
+      → are_told_from before kind (told ++ others) (hits ++ more) ≡ true
+  told_append [] [] others more h k = k
+  told_append [] (hit ∷ hits) others more h k = absurd (true≢false (sym h))
+  told_append (one ∷ told) [] others more h k = absurd (true≢false (sym h))
+  told_append (one ∷ told) (hit ∷ hits) others more h k =
+      let parts = and_parts (is_told_from before kind one hit) (are_told_from before kind told hits) h in
+      and_from (is_told_from before kind one hit) (are_told_from before kind (told ++ others) (hits ++ more)) parts.0 (told_append told hits others more parts.1 k)
 
-  events_told : (size : ℕ) (p q : ℕ → Bool) → ((n : ℕ) → p n ≡ q (n + before)) → (hits : List Hit) → list_all (is_told_from before kind told) hits ≡ true
-      → list_any p (events size kind (map told hits)) ≡ list_any q (events size kind hits)
-  events_told size p q moved [] h = refl
-  events_told size p q moved (hit ∷ rest) h =
-      let parts = and_parts (is_told_from before kind told hit) (list_all (is_told_from before kind told) rest) h in
-      let numbers = and_parts (start_in kind (told hit) + before == start_in kind hit) (end_in kind (told hit) + before == end_in kind hit) parts.0 in
-      let start = eqb-true (start_in kind (told hit) + before) (start_in kind hit) numbers.0 in
-      let end = eqb-true (end_in kind (told hit) + before) (end_in kind hit) numbers.1 in
-      λ i. (moved (end_in kind (told hit)) ∙ ap q end) i
-      || ((moved (start_in kind (told hit) + size) ∙ ap q (moved_end before size (start_in kind hit) (start_in kind (told hit)) start)) i
-      || events_told size p q moved rest parts.1 i)
+  all_told : {A : Type 0} (told plain : A → Counted) → ((a : A) → IsTold before kind (told a) (plain a)) → (items : List A)
+      → are_told_from before kind (all_hits (map told items)) (all_hits (map plain items)) ≡ true
+  all_told told plain is [] = refl
+  all_told told plain is (item ∷ rest) =
+      told_append (told item).hits (plain item).hits (all_hits (map told rest)) (all_hits (map plain rest)) (is item).hits (all_told told plain is rest)
 
-  starts_told : (p q : ℕ → Bool) → ((n : ℕ) → p n ≡ q (n + before)) → (hits : List Hit) → list_all (is_told_from before kind told) hits ≡ true
-      → list_any p (map (start_in kind) (map told hits)) ≡ list_any q (map (start_in kind) hits)
-  starts_told p q moved [] h = refl
-  starts_told p q moved (hit ∷ rest) h =
-      let parts = and_parts (is_told_from before kind told hit) (list_all (is_told_from before kind told) rest) h in
-      let numbers = and_parts (start_in kind (told hit) + before == start_in kind hit) (end_in kind (told hit) + before == end_in kind hit) parts.0 in
-      λ i. (moved (start_in kind (told hit)) ∙ ap q (eqb-true (start_in kind (told hit) + before) (start_in kind hit) numbers.0)) i
-      || starts_told p q moved rest parts.1 i
+  events_told : (size : ℕ) (p q : ℕ → Bool) → ((n : ℕ) → p n ≡ q (n + before)) → (told hits : List Hit) → are_told_from before kind told hits ≡ true
+      → list_any p (events size kind told) ≡ list_any q (events size kind hits)
+  events_told size p q moved [] [] h = refl
+  events_told size p q moved [] (hit ∷ hits) h = absurd (true≢false (sym h))
+  events_told size p q moved (one ∷ told) [] h = absurd (true≢false (sym h))
+  events_told size p q moved (one ∷ told) (hit ∷ hits) h =
+      let parts = and_parts (is_told_from before kind one hit) (are_told_from before kind told hits) h in
+      let numbers = and_parts (start_in kind one + before == start_in kind hit) (end_in kind one + before == end_in kind hit) parts.0 in
+      let start = eqb-true (start_in kind one + before) (start_in kind hit) numbers.0 in
+      let end = eqb-true (end_in kind one + before) (end_in kind hit) numbers.1 in
+      λ i. (moved (end_in kind one) ∙ ap q end) i
+      || ((moved (start_in kind one + size) ∙ ap q (moved_end before size (start_in kind hit) (start_in kind one) start)) i
+      || events_told size p q moved told hits parts.1 i)
 
-  pub told-window : (size : ℕ) (items : List Counted) → list_all (is_told_from before kind told) (all_hits items) ≡ true
-      → fit_in_window size kind (told_items told items) ≡ fit_in_window size kind items
-  told-window size items h =
-      ap (λ hits. list_any (λ last. list_all (has_enough (in_window size kind last)) (told_items told items)) (events size kind hits)) (all_told items)
-      ∙ events_told size (λ last. list_all (has_enough (in_window size kind last)) (told_items told items)) (λ last. list_all (has_enough (in_window size kind last)) items)
-      (λ last. items_told (in_window size kind)
-      (λ n hit one. moved_window before size n (start_in kind hit) (end_in kind hit) (start_in kind (told hit)) (end_in kind (told hit)) one) last items h)
-      (all_hits items) h
+  starts_told : (p q : ℕ → Bool) → ((n : ℕ) → p n ≡ q (n + before)) → (told hits : List Hit) → are_told_from before kind told hits ≡ true
+      → list_any p (map (start_in kind) told) ≡ list_any q (map (start_in kind) hits)
+  starts_told p q moved [] [] h = refl
+  starts_told p q moved [] (hit ∷ hits) h = absurd (true≢false (sym h))
+  starts_told p q moved (one ∷ told) [] h = absurd (true≢false (sym h))
+  starts_told p q moved (one ∷ told) (hit ∷ hits) h =
+      let parts = and_parts (is_told_from before kind one hit) (are_told_from before kind told hits) h in
+      let numbers = and_parts (start_in kind one + before == start_in kind hit) (end_in kind one + before == end_in kind hit) parts.0 in
+      λ i. (moved (start_in kind one) ∙ ap q (eqb-true (start_in kind one + before) (start_in kind hit) numbers.0)) i
+      || starts_told p q moved told hits parts.1 i
 
-  pub told-unit : (items : List Counted) → list_all (is_told_from before kind told) (all_hits items) ≡ true
-      → fit_in_unit kind (told_items told items) ≡ fit_in_unit kind items
-  told-unit items h =
-      ap (λ hits. list_any (λ number. list_all (has_enough (in_unit kind number)) (told_items told items)) (map (start_in kind) hits)) (all_told items)
-      ∙ starts_told (λ number. list_all (has_enough (in_unit kind number)) (told_items told items)) (λ number. list_all (has_enough (in_unit kind number)) items)
-      (λ number. items_told (in_unit kind)
-      (λ n hit one. moved_unit before n (start_in kind hit) (end_in kind hit) (start_in kind (told hit)) (end_in kind (told hit)) one) number items h)
-      (all_hits items) h
+  module _ {A : Type 0} (told plain : A → Counted) (is : (a : A) → IsTold before kind (told a) (plain a)) where
+    pub told-window : (size : ℕ) (items : List A) → fit_in_window size kind (map told items) ≡ fit_in_window size kind (map plain items)
+    told-window size items =
+        events_told size (λ last. list_all (has_enough (in_window size kind last)) (map told items)) (λ last. list_all (has_enough (in_window size kind last)) (map plain items))
+        (λ last. items_told (in_window size kind)
+        (λ n one hit moved. moved_window before size n (start_in kind hit) (end_in kind hit) (start_in kind one) (end_in kind one) moved) told plain is last items)
+        (all_hits (map told items)) (all_hits (map plain items)) (all_told told plain is items)
+
+    pub told-unit : (items : List A) → fit_in_unit kind (map told items) ≡ fit_in_unit kind (map plain items)
+    told-unit items =
+        starts_told (λ number. list_all (has_enough (in_unit kind number)) (map told items)) (λ number. list_all (has_enough (in_unit kind number)) (map plain items))
+        (λ number. items_told (in_unit kind)
+        (λ n one hit moved. moved_unit before n (start_in kind hit) (end_in kind hit) (start_in kind one) (end_in kind one) moved) told plain is number items)
+        (all_hits (map told items)) (all_hits (map plain items)) (all_told told plain is items)

@@ -1,11 +1,13 @@
 //! Fields, and counts in them, on small texts.
 
+mod accepted;
 mod field;
 mod held;
 mod row;
 mod shape;
 mod told;
 
+pub use accepted::{fields_of_filters, occurs_under_filters};
 pub use field::{hits_in_a_unit, hits_in_a_window, matches_in_a_field};
 pub use held::{forms_in_a_field, forms_that_need_a_hit, times_that_need_a_hit};
 pub use row::{

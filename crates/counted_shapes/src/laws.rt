@@ -1,5 +1,6 @@
 //! What holds in one field, and of windows and scopes by it.
 
+mod accepted;
 mod counted;
 mod field;
 mod fits;
@@ -7,6 +8,7 @@ mod form;
 mod told;
 mod window;
 
+pub use accepted::accepted_law;
 pub use counted::{counted_law, events_law, items_law};
 pub use field::field_law;
 pub use fits::fits_law;

@@ -5,14 +5,14 @@ use Rattle.ft_base.specs.Hits.{HitPlace}
 use Rattle.place_merges.specs.declared.item.Variant.{Variant}
 use Rattle.place_merges.specs.declared.spot.Spot.{Spot}
 use Rattle.place_merges.specs.Spots.{spot}
-use Rattle.place_merges.specs.steps.Searching.{Shown, shown_all}
+use Rattle.place_merges.specs.steps.Searching.{Shown}
 use Rattle.spot_merges.specs.steps.Covering.{spots_ahead}
 use Rattle.counted_shapes.specs.Shapes.{is_at_most}
 use Rattle.count_merges.specs.declared.item.CountedItem.{CountedItem}
 use Rattle.count_merges.specs.declared.item.VariantGroup.{VariantGroup}
 use Rattle.count_merges.specs.declared.passing.Passed.{Passed}
 use Rattle.count_merges.specs.declared.window.Window.{Window}
-use Rattle.count_merges.specs.Groups.{VariantLists, group_left, group_lists, is_group_plain}
+use Rattle.count_merges.specs.Groups.{VariantLists, group_left, group_lists, is_group_plain, item_lists}
 
 -- the end of the first window of a size that has passed so many words at a place
 abbrev pub event : (ℕ → ℕ) → ℕ → ℕ → ℕ → ℕ
@@ -81,11 +81,15 @@ holds_item stand unit window item last =
 abbrev pub holds_all : {H : Type 0} → (H → HitPlace) → (ℕ → ℕ) → Window → List (CountedItem H) → ℕ → Bool
 holds_all stand unit window items last = list_all (λ item. holds_item stand unit window item last) items
 
-abbrev pub shown_group : {H : Type 0} → (H → HitPlace) → (H → Bool) → VariantGroup H → Shown (VariantLists × VariantLists)
+abbrev pub shown_group : {H : Type 0} → (H → HitPlace) → (H → Bool) → VariantGroup H → Shown (ℕ × VariantLists × VariantLists)
 shown_group stand plain group = record { lists = group_lists stand group; plain = is_group_plain plain group; left = group_left stand group }
 
-abbrev pub shown_item : {H : Type 0} → (H → HitPlace) → (H → Bool) → CountedItem H → Shown (List (VariantLists × VariantLists))
-shown_item stand plain item = shown_all (shown_group stand plain) item.groups.items
+abbrev pub shown_item : {H : Type 0} → (H → HitPlace) → (H → Bool) → CountedItem H → Shown (ℕ × Option ℕ × List (ℕ × VariantLists × VariantLists))
+shown_item stand plain item = record {
+  lists = item_lists stand item;
+  plain = list_all (is_group_plain plain) item.groups.items;
+  left = sum_by (group_left stand) item.groups.items;
+}
 
 -- ---- before the first window of a text
 

@@ -1,8 +1,9 @@
 //! Counted shapes under a window or a scope, by counts of their items.
 
-ghost use Rattle.std.specs.Prelude.{◌≡◌, ◌↔◌, ℕ, Bool, List, nat_lt, true};
+ghost use Rattle.std.specs.Prelude.{◌≡◌, ◌↔◌, ℕ, Bool, List, nat_lt, Some, true};
 ghost use Rattle.std.specs.List.{list_all, list_any};
 ghost use Rattle.ft_base.specs.Selection.{Form, filtered};
+ghost use Rattle.ft_base.specs.declared.filter.Filter.{Filter};
 ghost use Rattle.ft_base.specs.declared.filter.Filter.TheVariants as F;
 ghost use Rattle.ft_base.specs.declared.hit.Hit.{Hit};
 ghost use Rattle.ft_base.specs.declared.options.Options.{Options};
@@ -11,8 +12,10 @@ ghost use Rattle.ft_base.specs.declared.unit.TextUnit.{TextUnit};
 ghost use Rattle.ft_base.specs.declared.unit.TextUnit.TheVariants as U;
 ghost use Rattle.all_matches.specs.Meaning.{sat_under};
 ghost use Rattle.all_matches.specs.Variants.{Lexicon};
+ghost use Rattle.counted_shapes.specs.Accepted.{field_of, fit_in};
 ghost use Rattle.counted_shapes.specs.Fields.{in_unit, in_window};
 ghost use Rattle.counted_shapes.specs.Held.{holds_in, is_boolean, needs_hit};
+ghost use Rattle.counted_shapes.specs.declared.field.Field.{Field};
 ghost use Rattle.counted_shapes.specs.Shapes.{Counted, fit_in_unit, fit_in_window, has_enough, is_shape, items_of};
 
 /// A counted shape, which is Boolean, holds in a field exactly where each of its items has enough there, and it asks for a hit exactly where one
@@ -44,4 +47,7 @@ pub fn counted_law()
         → sat_under lexicon options (filtered form F.SameSentence) tokens ≡ fit_in_unit U.Sentences (items_of lexicon options tokens form) }
     ensures same_paragraph { (lexicon : Lexicon) (options : Options) (form : Form) (tokens : List Token) → is_shape form ≡ true → needs_hit form ≡ true
         → sat_under lexicon options (filtered form F.SameParagraph) tokens ≡ fit_in_unit U.Paragraphs (items_of lexicon options tokens form) }
+    ensures in_field { (lexicon : Lexicon) (options : Options) (kind : Filter) (field : Field) (form : Form) (tokens : List Token)
+        → field_of kind ≡ Some field → is_shape form ≡ true → needs_hit form ≡ true
+        → sat_under lexicon options (filtered form kind) tokens ≡ fit_in field (items_of lexicon options tokens form) }
 {}

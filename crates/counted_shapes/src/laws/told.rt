@@ -1,13 +1,12 @@
 //! What lies in a field by its first and its last number, and numbers that are told from another one on.
 
-ghost use Rattle.std.specs.Prelude.{◌≡◌, ◌&&◌, ℕ, List, nat_le, true};
-ghost use Rattle.std.specs.List.{list_all};
+ghost use Rattle.std.specs.Prelude.{◌≡◌, ◌&&◌, ℕ, List, map, nat_le, true};
 ghost use Rattle.ft_base.specs.declared.hit.Hit.{Hit};
 ghost use Rattle.ft_base.specs.declared.unit.TextUnit.{TextUnit};
 ghost use Rattle.all_matches.specs.Positions.{end_in, start_in};
 ghost use Rattle.counted_shapes.specs.Fields.{in_unit, in_window, is_in_window};
-ghost use Rattle.counted_shapes.specs.Shapes.{Counted, all_hits, fit_in_unit, fit_in_window};
-ghost use Rattle.counted_shapes.specs.Told.{is_told_from, told_items};
+ghost use Rattle.counted_shapes.specs.Shapes.{Counted, fit_in_unit, fit_in_window};
+ghost use Rattle.counted_shapes.specs.Told.{IsTold};
 
 /// A hit that doesn't end before its beginning lies in a window where its first and its last number do, and in a sentence or paragraph where it lies
 /// in the window of that one alone.
@@ -19,11 +18,9 @@ pub fn lies_law()
 {}
 
 /// Items whose hits are told from another number on, as those of a part of a document are, fit where they fitted.
-pub fn told_law()
-    ensures window { (before : ℕ) (kind : TextUnit) (told : Hit → Hit) (size : ℕ) (items : List Counted)
-        → list_all (is_told_from before kind told) (all_hits items) ≡ true
-        → fit_in_window size kind (told_items told items) ≡ fit_in_window size kind items }
-    ensures unit { (before : ℕ) (kind : TextUnit) (told : Hit → Hit) (items : List Counted)
-        → list_all (is_told_from before kind told) (all_hits items) ≡ true
-        → fit_in_unit kind (told_items told items) ≡ fit_in_unit kind items }
+pub fn told_law<A>()
+    ensures window { (before : ℕ) (kind : TextUnit) (told plain : A → Counted) → ((a : A) → IsTold before kind (told a) (plain a)) → (size : ℕ) (items : List A)
+        → fit_in_window size kind (map told items) ≡ fit_in_window size kind (map plain items) }
+    ensures unit { (before : ℕ) (kind : TextUnit) (told plain : A → Counted) → ((a : A) → IsTold before kind (told a) (plain a)) → (items : List A)
+        → fit_in_unit kind (map told items) ≡ fit_in_unit kind (map plain items) }
 {}
