@@ -1,4 +1,4 @@
-pub mod AllowedRewriting
+pub mod AcceptedRewriting
 pub mod Among
 pub mod Associative
 pub mod EachSelection

@@ -1,7 +1,7 @@
 ghost use Rattle.std.specs.Prelude.{◌≡◌, true, IfOk, List};
-ghost use Rattle.all_matches.specs.Allowed.{is_allowed};
 ghost use Rattle.all_matches.specs.Meaning.{sat};
 ghost use Rattle.all_matches.specs.Variants.{Lexicon};
+ghost use Rattle.counted_shapes.specs.Accepted.{is_accepted};
 ghost use Rattle.ft_base.specs.declared.token.Token.{Token};
 ghost use Rattle.ft_rewriter.specs.Rewriting.{rewritten};
 ghost use Rattle.ft_syntax.specs.View.{form};
@@ -28,7 +28,7 @@ pub fn rewrite(alloc: Global, selection: &Selection) -> Result<Selection, Memory
     ensures is { IfOk result (λ simple. form simple ≡ rewritten (form selection.now)) }
     ensures says_the_same { IfOk result (λ simple. (lexicon : Lexicon) (tokens : List Token)
         → sat lexicon (form simple) tokens ≡ sat lexicon (form selection.now) tokens) }
-    ensures allowed { IfOk result (λ simple. is_allowed (form selection.now) ≡ true → is_allowed (form simple) ≡ true) }
+    ensures accepted { IfOk result (λ simple. is_accepted (form selection.now) ≡ true → is_accepted (form simple) ≡ true) }
 {
     give_and_simplify(alloc, selection)
 }

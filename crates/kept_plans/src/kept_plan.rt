@@ -1,7 +1,7 @@
 //! Plans with the texts of their selections.
 
 ghost use Rattle.std.specs.Prelude.{◌≡◌, IfErr, IfOk, IsTrue, None, bytes_eq};
-ghost use Rattle.all_matches.specs.Allowed.{is_allowed};
+ghost use Rattle.counted_shapes.specs.Accepted.{is_accepted};
 ghost use Rattle.ft_rewriter.specs.Code.{form_numbers};
 ghost use Rattle.ft_syntax.specs.View.{form};
 ghost use Rattle.plan_compiler.specs.Missing.{first_missing, IsMissing};
@@ -57,7 +57,7 @@ impl KeptPlan {
         selection: &Selection,
         lists: &Lists,
     ) -> Result<KeptPlan, CompileFault>
-        requires allowed { IsTrue (is_allowed (form selection.now)) }
+        requires accepted { IsTrue (is_accepted (form selection.now)) }
         requires numbers { numbers ≡ form_numbers (form selection.now) }
         ensures plan { IfOk result (λ plan. plan ≡ plan_of text.now (form selection.now) lists.now) }
         ensures there { IfOk result (λ _. first_missing lists.now (form selection.now) ≡ None) }

@@ -1,7 +1,7 @@
 //! Lists, and the plans that are kept under them.
 
 ghost use Rattle.std.specs.Prelude.{◌≡◌, ℕ, ◌+◌, ◌<◌, ◌^◌, ◌↔◌, IfErr, IfOk, IsTrue, List, None, OnErr, OnOk, length, true};
-ghost use Rattle.all_matches.specs.Allowed.{is_allowed};
+ghost use Rattle.counted_shapes.specs.Accepted.{is_accepted};
 ghost use Rattle.ft_syntax.specs.View.{form};
 ghost use Rattle.plan_compiler.specs.Missing.{first_missing, IsMissing};
 ghost use Rattle.plan_compiler.specs.NamedLists.{with_stems, with_stop_list, with_thesaurus};
@@ -125,7 +125,7 @@ impl Prepared {
     /// The plan of a selection that has that text, under the lists: the one that is kept, or one that is compiled now. A list that the
     /// selection names and that isn't there is a fault: the first one in the order of its printed form.
     pub fn plan(&self, text: &[u8], selection: &Selection) -> Result<KeptPlan, CompileFault>
-        requires allowed { IsTrue (is_allowed (form selection.now)) }
+        requires accepted { IsTrue (is_accepted (form selection.now)) }
         ensures plan { IfOk result (λ plan. plan ≡ plan_of text.now (form selection.now) self.now.lists) }
         ensures there { IfOk result (λ _. first_missing self.now.lists (form selection.now) ≡ None) }
         ensures missing { IfErr result (λ fault. IsMissing fault (first_missing self.now.lists (form selection.now))) }

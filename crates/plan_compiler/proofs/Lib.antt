@@ -8,7 +8,7 @@ pub mod MissingLemmas
 pub mod ItemMeaning
 pub mod PhraseMeaning
 mod PriceMeaning
-mod AllowedLemmas
+mod AcceptedLemmas
 pub mod SelectionMeaning
 mod CompiledLemmas
 mod RewrittenPrices
@@ -22,3 +22,7 @@ mod PhraseOperators
 mod OperatorLemmas
 mod UnitingLemmas
 mod WaysLaw
+mod TimesLemmas
+mod SkippedShapes
+mod CountedPhrases
+mod CountedLemmas

@@ -1,19 +1,21 @@
 -- What each kind of compiled selection says, and what its tests cost.
-use Rattle.std.proofs.Common.{◌≡◌, refl, ap, ◌∙◌, ℕ, true, sum, List, [], ◌∷◌, map, Box, Global, rules, not, ◌&&◌, ◌||◌}
+use Rattle.std.proofs.Common.{◌≡◌, refl, ap, ◌∙◌, ℕ, true, false, sum, List, [], ◌∷◌, map, Box, Global, rules, not, ◌&&◌, ◌||◌}
 use Rattle.std.specs.List.{list_any, list_all, sum_by}
 use Rattle.std.proofs.lemmas.List.Folds.{list_all-map}
 use Rattle.std.proofs.lemmas.List.Sums.{sum-map}
 use Rattle.plan_compiler.specs.CheapPlans.{is_cheap_node, is_cheap_operator}
+use Rattle.plan_compiler.specs.CountedPlans.{counted_cost, counted_truth}
 use Rattle.plan_compiler.specs.NodeCosts.{node_cost, operator_cost, words_cost}
 use Rattle.plan_compiler.specs.NodeMeaning.{layer, truth}
 use Rattle.plan_compiler.specs.Operators.{LookedText, operator_at, satisfied_over}
 use Rattle.plan_compiler.specs.TextWords.{words_of_tokens}
 use Rattle.plan_compiler.specs.WordsMeaning.{words_truth}
+use Rattle.plan_compiler.specs.declared.counted_plan.CountedPlan.{CountedPlan}
 use Rattle.plan_compiler.specs.declared.item_matching.ItemTest.{ItemTest}
 use Rattle.plan_compiler.specs.declared.operator_plan.WaysPlan.{WaysPlan}
 use Rattle.plan_compiler.specs.declared.words_plan.WordsPlan.{WordsPlan}
 use Rattle.plan_compiler.specs.declared.node.Node.TheOpen.{Node-F}
-use Rattle.plan_compiler.specs.declared.node.Node.{Node, Words, Or, And, Not, Ways, the_lemmas}
+use Rattle.plan_compiler.specs.declared.node.Node.{Node, Words, Or, And, Not, Ways, Counted, the_lemmas}
 
 pub truth-Words : (plan : WordsPlan) (text : LookedText) → truth (Words plan) text ≡ words_truth plan (words_of_tokens text.looks text.stems text.tokens)
 unfolding truth
@@ -49,6 +51,10 @@ pub truth-Ways : (plan : WaysPlan) (text : LookedText) → truth (Ways plan) tex
 unfolding truth
 truth-Ways plan text = search (rules, the_lemmas)
 
+pub truth-Counted : (plan : CountedPlan) (text : LookedText) → truth (Counted plan) text ≡ counted_truth plan text
+unfolding truth
+truth-Counted plan text = search (rules, the_lemmas)
+
 -- ---- what its tests cost
 
 module _ (cost : ItemTest → ℕ) where
@@ -78,6 +84,10 @@ module _ (cost : ItemTest → ℕ) where
   unfolding node_cost
   cost-Ways plan = search (rules, the_lemmas)
 
+  pub cost-Counted : (plan : CountedPlan) → node_cost cost (Counted plan) ≡ counted_cost cost plan
+  unfolding node_cost
+  cost-Counted plan = search (rules, the_lemmas)
+
 -- ---- whether they are cheap
 
 pub cheap-Words : (plan : WordsPlan) → is_cheap_node (Words plan) ≡ true
@@ -105,3 +115,7 @@ cheap-Not part = search (rules, the_lemmas)
 pub cheap-Ways : (plan : WaysPlan) → is_cheap_node (Ways plan) ≡ is_cheap_operator plan.operator
 unfolding is_cheap_node
 cheap-Ways plan = search (rules, the_lemmas)
+
+pub cheap-Counted : (plan : CountedPlan) → is_cheap_node (Counted plan) ≡ false
+unfolding is_cheap_node
+cheap-Counted plan = search (rules, the_lemmas)

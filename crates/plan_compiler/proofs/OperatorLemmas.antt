@@ -189,14 +189,14 @@ module _ (lists : NamedLists) (options : Options) where
       (operators_more tokens (first + own) parts part
       ∙ ap (λ n. operators_of (lexicon lists) options (first + own) tokens (forms_of (map form parts)) ++ operator_of (lexicon lists) options n tokens (form part) ∷ []) at)
 
-  prices_more : (terms : List Entry) (text : List (List ℕ)) (parts : List Selection) (part : Selection)
+  pub prices_more : (terms : List Entry) (text : List (List ℕ)) (parts : List Selection) (part : Selection)
       → prices_under (lexicon lists) options terms text (forms_of (map form (parts ++ part ∷ [])))
       ≡ prices_under (lexicon lists) options terms text (forms_of (map form parts)) + price_under (lexicon lists) options terms text (form part)
   unfolding price_under
   prices_more terms text [] part = omega arith
   prices_more terms text (one ∷ parts) part = let rest = prices_more terms text parts part in omega (arith, rest)
 
-served_parts : (looks : Looks) (parts : List Selection) (part : Selection) → all_served looks (forms_of (map form (parts ++ part ∷ []))) ≡ true
+pub served_parts : (looks : Looks) (parts : List Selection) (part : Selection) → all_served looks (forms_of (map form (parts ++ part ∷ []))) ≡ true
     → (all_served looks (forms_of (map form parts)) ≡ true) × (is_served looks (form part) ≡ true)
 unfolding is_served
 served_parts looks [] part h = (refl, (and_parts (is_served looks (form part)) true h).0)

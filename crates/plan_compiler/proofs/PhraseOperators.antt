@@ -175,10 +175,10 @@ none_empty AllWords strings = no_item strings
 none_empty Phrase strings = no_phrase strings
 
 module _ (lists : NamedLists) (options : Options) (reading : Reading) (reads : Reads reading lists options) (value : Words) where
-  abbrev read_strings : List (List Item)
+  abbrev pub read_strings : List (List Item)
   read_strings = map (items_of reading.wildcards) value.values
 
-  strings_same : read_strings ≡ strings_of (lexicon lists) options value
+  pub strings_same : read_strings ≡ strings_of (lexicon lists) options value
   strings_same = ap (λ (wildcards : Bool). map (items_of wildcards) value.values) reads.wildcards
 
   module _ (first next : ℕ) (plans : List OperatorPlan) (all : PhrasesCompileTo reading first next plans (phrases_by value.mode read_strings)) where

@@ -58,6 +58,7 @@ layer (Node-F.Or parts) = list_all (λ part. part) parts
 layer (Node-F.And parts) = list_all (λ part. part) parts
 layer (Node-F.Not part) = part.value
 layer (Node-F.Ways plan) = is_cheap_operator plan.operator
+layer (Node-F.Counted plan) = false
 
 unfoldable pub is_cheap_node : Node → Bool
 is_cheap_node = fold-Node Bool layer

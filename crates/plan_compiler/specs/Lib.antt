@@ -13,6 +13,7 @@ pub mod CheapPlans
 pub mod GroupedTests
 pub mod WordsMeaning
 pub mod Operators
+pub mod CountedPlans
 pub mod CompiledOperators
 pub mod CompiledWords
 pub mod NodeMeaning
@@ -21,4 +22,5 @@ pub mod PlanMeaning
 pub mod Price
 pub mod PriceExamples
 pub mod CompiledSelection
+pub mod CompiledCounts
 pub mod steps

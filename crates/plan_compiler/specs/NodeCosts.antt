@@ -1,6 +1,7 @@
 -- What the tests of a compiled selection cost together, whatever each of them costs.
 use Rattle.std.specs.Prelude.{ℕ, ◌+◌, sum}
 use Rattle.std.specs.List.{sum_by}
+use Rattle.plan_compiler.specs.CountedPlans.{counted_cost}
 use Rattle.plan_compiler.specs.declared.item_matching.ItemTest.{ItemTest}
 use Rattle.plan_compiler.specs.declared.node.Node.{Node, fold-Node}
 use Rattle.plan_compiler.specs.declared.node.Node.TheOpen.{Node-F}
@@ -31,6 +32,7 @@ module _ (cost : ItemTest → ℕ) where
   layer (Node-F.And parts) = sum parts
   layer (Node-F.Not part) = part.value
   layer (Node-F.Ways plan) = operator_cost plan.operator
+  layer (Node-F.Counted plan) = counted_cost cost plan
 
   unfoldable pub node_cost : Node → ℕ
   node_cost = fold-Node ℕ layer

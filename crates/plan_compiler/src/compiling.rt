@@ -3,17 +3,19 @@
 ghost use Rattle.std.specs.Prelude.{IfOk, IsTrue, map};
 ghost use Rattle.ft_syntax.specs.View.{form, forms_of};
 ghost use Rattle.ft_base.specs.Selection.{words};
-ghost use Rattle.all_matches.specs.Allowed.{each_is_allowed, is_allowed};
+ghost use Rattle.counted_shapes.specs.Accepted.{each_is_accepted, is_accepted};
 ghost use Rattle.plan_compiler.specs.ChosenOptions.{options_of};
 ghost use Rattle.plan_compiler.specs.CompiledSelection.{CompileAll, Compiles};
 ghost use Rattle.plan_compiler.specs.Served.{all_served, are_served, is_served};
 
 use crate::chosen::{Chosen, inside};
+use crate::compiling_counts::compile_counted;
 use crate::compiling_operators::compile_ways;
 use crate::compiling_words::compile_words;
 use crate::lists::Lists;
 use crate::looks::Looks;
 use crate::node::Node;
+use crate::times::without_times;
 use ft_base::{Items, Memory, Words};
 use ft_syntax::{Selection, Selections};
 use std::alloc::Global;
@@ -30,7 +32,7 @@ pub(crate) fn compile(
 ) -> Result<Node, Memory>
     requires options { IsTrue (are_served looks (options_of chosen.now)) }
     requires selection { IsTrue (is_served looks (form selection.now)) }
-    requires allowed { IsTrue (is_allowed (form selection.now)) }
+    requires accepted { IsTrue (is_accepted (form selection.now)) }
     ensures { IfOk result (λ node. Compiles looks lists.now (options_of chosen.now) node (form selection.now)) }
 {
     match selection {
@@ -41,9 +43,13 @@ pub(crate) fn compile(
         Selection::Not(operand) => Ok(Node::Not(compile_boxed(
             alloc, lists, looks, chosen, operand,
         )?)),
-        Selection::Filtered(_operand, _filter) => compile_ways(
-            alloc, lists, looks, chosen, selection,
-        ),
+        Selection::Filtered(operand, filter) => {
+            if without_times(operand) {
+                compile_ways(alloc, lists, looks, chosen, selection)
+            } else {
+                compile_counted(alloc, lists, looks, chosen, operand, *filter)
+            }
+        }
         Selection::With(operand, options) => {
             compile(alloc, lists, looks, &inside(options, chosen), operand)
         }
@@ -60,7 +66,7 @@ fn compile_boxed(
 ) -> Result<Box<Node>, Memory>
     requires options { IsTrue (are_served looks (options_of chosen.now)) }
     requires selection { IsTrue (is_served looks (form operand.now.value)) }
-    requires allowed { IsTrue (is_allowed (form operand.now.value)) }
+    requires accepted { IsTrue (is_accepted (form operand.now.value)) }
     ensures { IfOk result (λ node. Compiles looks lists.now (options_of chosen.now) node.value (form operand.now.value)) }
 {
     let node = compile(alloc, lists, looks, chosen, operand)?;
@@ -77,7 +83,7 @@ fn compile_all(
 ) -> Result<Items<Node>, Memory>
     requires options { IsTrue (are_served looks (options_of chosen.now)) }
     requires selections { IsTrue (all_served looks (forms_of (map form parts.now))) }
-    requires allowed { IsTrue (each_is_allowed (forms_of (map form parts.now))) }
+    requires accepted { IsTrue (each_is_accepted (forms_of (map form parts.now))) }
     ensures { IfOk result (λ nodes. CompileAll looks lists.now (options_of chosen.now) nodes parts.now) }
 {
     let mut nodes = Items::new(alloc);

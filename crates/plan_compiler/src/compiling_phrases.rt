@@ -11,6 +11,7 @@ ghost use Rattle.plan_compiler.specs.CompiledOperators.{PhraseCompilesTo, Phrase
 ghost use Rattle.plan_compiler.specs.ItemTests.{asks_nothing, passes};
 ghost use Rattle.plan_compiler.specs.Operators.{joined_of};
 ghost use Rattle.plan_compiler.specs.WordsMeaning as spec;
+ghost use Rattle.plan_compiler.specs.declared.operator_plan.OperatorPlan.{Phrase};
 
 use crate::chosen::Chosen;
 use crate::compiling_words::phrases_by;
@@ -95,12 +96,26 @@ fn phrase_operator(
 ) -> Result<OperatorPlan, Memory>
     ensures { IfOk result (λ plan. PhraseCompilesTo reading.now next.old next.new plan (map item phrase.now)) }
 {
+    Ok(OperatorPlan::Phrase(numbered_phrase(
+        alloc, reading, phrase, next,
+    )?))
+}
+
+/// What the words of the phrase have to be, under the next number.
+pub(crate) fn numbered_phrase(
+    alloc: Global,
+    reading: &Reading<'_>,
+    phrase: &[QueryItem],
+    next: &mut u32,
+) -> Result<PhraseTests, Memory>
+    ensures { IfOk result (λ found. PhraseCompilesTo reading.now next.old next.new (Phrase found) (map item phrase.now)) }
+{
     let variants = variant_tests(alloc, reading, phrase)?;
     let number = *next;
     match number.checked_add(1) {
         Some(following) => {
             *next = following;
-            Ok(OperatorPlan::Phrase(PhraseTests { number, variants }))
+            Ok(PhraseTests { number, variants })
         }
         None => {
             drop(variants);

@@ -1,15 +1,17 @@
 //! Plans: selections compiled, so that texts can be tested against them.
 //!
 //! Truth values and counts tell whether a text satisfies what stands outside filters and `not in`; under them the ways tell it, in which
-//! hits may be chosen. No AllMatches are made. `plan_runs` opens a plan over a version of an index.
+//! hits may be chosen, or counts of hits in one window, sentence or paragraph. No AllMatches are made. `plan_runs` opens a plan over a version of an index.
 #![tactic(auto)]
 
 mod chosen;
 mod compiling;
+mod compiling_counts;
 mod compiling_operators;
 mod compiling_phrases;
 mod compiling_words;
 pub mod examples;
+mod counted_plan;
 mod fault;
 mod item_matching;
 mod joining;
@@ -25,10 +27,12 @@ mod reading;
 mod served;
 mod stops;
 mod text_word;
+mod times;
 mod uniting;
 mod variants;
 mod words_plan;
 
+pub use counted_plan::{CountedPlan, CountedWords};
 pub use fault::CompileFault;
 pub use item_matching::ItemTest;
 pub use lists::Lists;

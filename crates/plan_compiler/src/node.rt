@@ -1,3 +1,4 @@
+use crate::counted_plan::CountedPlan;
 use crate::operator_plan::WaysPlan;
 use crate::words_plan::WordsPlan;
 use ft_base::Items;
@@ -13,4 +14,6 @@ pub enum Node {
     Not(Box<Node>),
     /// A selection with filters or `not in`, by its ways.
     Ways(WaysPlan),
+    /// Words that are counted in one window, sentence or paragraph.
+    Counted(CountedPlan),
 }

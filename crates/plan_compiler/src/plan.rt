@@ -3,7 +3,7 @@
 ghost use Rattle.std.specs.Prelude.{◌≡◌, IfErr, IfOk, IsTrue, None};
 ghost use Rattle.ft_syntax.specs.View.{form};
 ghost use Rattle.ft_base.specs.Selection.{no_options};
-ghost use Rattle.all_matches.specs.Allowed.{is_allowed};
+ghost use Rattle.counted_shapes.specs.Accepted.{is_accepted};
 ghost use Rattle.plan_compiler.specs.CompiledSelection.{Compiles};
 ghost use Rattle.plan_compiler.specs.Missing.{first_missing, IsMissing};
 ghost use Rattle.plan_compiler.specs.Served.{is_served};
@@ -45,7 +45,7 @@ impl Plan {
         selection: &Selection,
         lists: &Lists,
     ) -> Result<Plan, CompileFault>
-        requires { IsTrue (is_allowed (form selection.now)) }
+        requires { IsTrue (is_accepted (form selection.now)) }
         ensures of { IfOk result (λ plan. plan_form plan ≡ form selection.now) }
         ensures lists { IfOk result (λ plan. plan_lists plan ≡ lists.now) }
         ensures there { IfOk result (λ _. first_missing lists.now (form selection.now) ≡ None) }
@@ -77,7 +77,7 @@ fn compile_rewritten(
     selection: &Selection,
     lists: &Lists,
 ) -> Result<(Looks, Node), Memory>
-    requires { IsTrue (is_allowed (form selection.now)) }
+    requires { IsTrue (is_accepted (form selection.now)) }
     ensures { IfOk result (λ made. Compiles made.0 lists.now no_options made.1 (form selection.now)) }
 {
     let simple = rewrite(alloc, selection)?;
@@ -92,7 +92,7 @@ fn compile_simple(
     selection: &Selection,
     lists: &Lists,
 ) -> Result<(Looks, Node), Memory>
-    requires { IsTrue (is_allowed (form selection.now)) }
+    requires { IsTrue (is_accepted (form selection.now)) }
     ensures { IfOk result (λ made. Compiles made.0 lists.now no_options made.1 (form selection.now)) }
 {
     let looks = looks_of(selection);

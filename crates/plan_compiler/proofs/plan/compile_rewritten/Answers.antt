@@ -19,4 +19,4 @@ returns c =
     c.compile_simple-made.ensures
 
 pub compile_simple-made-requires : goal.compile_simple-made-requires
-compile_simple-made-requires c = c.in_ok-simple.ensures.allowed c.requires
+compile_simple-made-requires c = c.in_ok-simple.ensures.accepted c.requires

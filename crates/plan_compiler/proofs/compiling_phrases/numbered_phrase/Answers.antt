@@ -2,7 +2,7 @@
 use Rattle.std.proofs.Common.{rules, map}
 use Rattle.match_options.specs.Items.{item}
 use Rattle.plan_compiler.proofs.PhraseOperators.{phrase_to}
-use Rattle.plan_compiler.proofs.compiling_phrases.phrase_operator.Goals as goal
+use Rattle.plan_compiler.proofs.compiling_phrases.numbered_phrase.Goals as goal
 
 pub returns-in-Some : goal.returns-in-Some
 returns-in-Some c =
