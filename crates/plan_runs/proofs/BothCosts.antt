@@ -4,7 +4,7 @@ use Rattle.std.specs.List.{sum_by}
 use Rattle.index_phrases.specs.declared.word_terms.WordTerms.{WordTerms}
 use Rattle.index_phrases.specs.declared.word_terms.WordTerms.TheVariants as Terms
 use Rattle.plan_runs.specs.steps.RunCosts.{group_cost, phrase_cost, run_cost, run_costs}
-use Rattle.plan_runs.specs.steps.RunShapes.{GroupShape, Shape, Shapes, none, more, words, any_of, all_of, not_of, by_ways, by_near, by_hits, by_merge, by_spots}
+use Rattle.plan_runs.specs.steps.RunShapes.{GroupShape, Shape, Shapes, none, more, words, any_of, all_of, not_of, by_ways, by_near, by_hits, by_merge, by_spots, by_counts}
 use Rattle.plan_runs.proofs.SumLemmas.{sum_of_two}
 
 module _ (a b : WordTerms → ℕ) where
@@ -30,6 +30,7 @@ module _ (a b : WordTerms → ℕ) where
     cost_both (by_hits run) = refl
     cost_both (by_merge merge) = sum_of_two (λ terms. a (Terms.Of terms)) (λ terms. b (Terms.Of terms)) merge.words
     cost_both (by_spots run) = refl
+    cost_both (by_counts run) = refl
 
     costs_both : (parts : Shapes) → run_costs both parts ≡ run_costs a parts + run_costs b parts
     costs_both none = refl

@@ -76,7 +76,7 @@ module _ (place : AskedPlace) where
   is_span = record { first = place.first; order = place.order; last = place.last }
 
   -- the places of a word's terms, and the words that it may be, by the numbers of the terms
-  places_same : (item : WordTerms) → wanted_at place item ≡ phrases.wanted_at place.version.now place.doc.0 place.span item
+  pub places_same : (item : WordTerms) → wanted_at place item ≡ phrases.wanted_at place.version.now place.doc.0 place.span item
   places_same Terms.Any = refl
   places_same (Terms.Of sources) =
       ap one_of (map-map (λ (number : ℕ). map (λ (hit : Hit). hit.from) (hits_at place number)) (λ (source : VersionTerm). source.term) sources)

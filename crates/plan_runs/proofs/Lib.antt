@@ -24,6 +24,7 @@ mod OpenedHits
 mod NearViews
 mod OpenedNear
 mod OpenedPlaced
+mod OpenedCounts
 mod KnownTexts
 mod RunLaw
 mod RuledOutLaw
@@ -33,3 +34,5 @@ mod TellingLemmas
 mod ChoosingLemmas
 mod MarkLemmas
 mod TreeLemmas
+mod CountAims
+mod PutVariants

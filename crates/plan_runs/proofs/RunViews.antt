@@ -1,14 +1,15 @@
 -- The shape of each kind of a run's tree, and what it says.
 use Rattle.std.proofs.Common.{◌≡◌, map, Box, Global, rules}
 use Rattle.std.specs.declared.vec.Vec.{Vec}
-use Rattle.plan_runs.specs.steps.RunShapes.{hits_shape, merge_shape, near_shape, shape, shapes_of, words_shape, words, any_of, all_of, not_of, by_ways, by_near, by_hits, by_merge, ways_shape, by_spots, placed_shape}
+use Rattle.plan_runs.specs.steps.RunShapes.{hits_shape, merge_shape, near_shape, shape, shapes_of, words_shape, words, any_of, all_of, not_of, by_ways, by_near, by_hits, by_merge, ways_shape, by_spots, placed_shape, by_counts, counts_shape}
 use Rattle.plan_runs.specs.declared.run_node.RunWords.{RunWords}
+use Rattle.plan_runs.specs.declared.run_counts.RunCounts.{RunCounts}
 use Rattle.plan_runs.specs.declared.run_hits.RunHits.{RunHits}
 use Rattle.plan_runs.specs.declared.run_merge.RunMerge.{RunMerge}
 use Rattle.plan_runs.specs.declared.run_near.RunNear.{RunNear}
 use Rattle.plan_runs.specs.declared.run_placed.RunPlaced.{RunPlaced}
 use Rattle.plan_runs.specs.declared.run_ways.RunWays.{RunWays}
-use Rattle.plan_runs.specs.declared.run_node.RunNode.{RunNode, Words, Or, And, Not, Ways, Near, Hits, Merge, the_lemmas, Placed}
+use Rattle.plan_runs.specs.declared.run_node.RunNode.{RunNode, Words, Or, And, Not, Ways, Near, Hits, Merge, the_lemmas, Placed, Counted}
 
 pub shape-Words : (run : RunWords) → shape (Words run) ≡ words (words_shape run)
 unfolding shape
@@ -45,3 +46,7 @@ shape-Merge run = search (rules, the_lemmas)
 pub shape-Placed : (run : RunPlaced) → shape (Placed run) ≡ by_spots (placed_shape run)
 unfolding shape
 shape-Placed run = search (rules, the_lemmas)
+
+pub shape-Counted : (run : RunCounts) → shape (Counted run) ≡ by_counts (counts_shape run)
+unfolding shape
+shape-Counted run = search (rules, the_lemmas)

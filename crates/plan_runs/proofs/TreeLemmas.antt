@@ -8,15 +8,17 @@ use Rattle.std.proofs.lemmas.List.Sums.{sum_by-cons}
 use Rattle.index_meaning.specs.Documents.{Numbered}
 use Rattle.plan_runs.specs.steps.CheapShapes.{are_cheap_shapes, is_cheap_shape}
 use Rattle.plan_runs.specs.steps.RunCosts.{run_cost, run_costs, words_cost}
-use Rattle.plan_runs.specs.steps.RunShapes.{hits_shape, near_shape, Shape, Shapes, shape, shapes_of, words, any_of, all_of, not_of, by_ways, by_near, by_hits, by_merge, none, more, merge_shape, words_shape, ways_shape, by_spots, placed_shape}
+use Rattle.plan_runs.specs.steps.RunShapes.{hits_shape, near_shape, Shape, Shapes, shape, shapes_of, words, any_of, all_of, not_of, by_ways, by_near, by_hits, by_merge, none, more, merge_shape, words_shape, ways_shape, by_spots, placed_shape, by_counts, counts_shape}
 use Rattle.plan_runs.specs.steps.AskedSpans.{AskedSpan, words_in}
 use Rattle.plan_runs.specs.steps.Passes.{AreHits, hits_say}
+use Rattle.plan_runs.specs.steps.Counts.{AreCounts, counts_say}
 use Rattle.plan_runs.specs.steps.Merges.{IsMerge, merge_cost, merge_says}
 use Rattle.plan_runs.specs.steps.NearRuns.{AreNear}
 use Rattle.plan_runs.specs.steps.Skips.{skip_of}
 use Rattle.plan_runs.specs.steps.OpenedOperators.{AreAims, aims_of}
 use Rattle.plan_runs.specs.steps.RunTruth.{ArePlaced, AreSound, AreWays, IsSound, IsWords, aims_say, all_true, placed_say, run_truth, some_true, words_say}
 use Rattle.plan_runs.specs.declared.run_node.RunWords.{RunWords}
+use Rattle.plan_runs.specs.declared.run_counts.RunCounts.{RunCounts}
 use Rattle.plan_runs.specs.declared.run_hits.RunHits.{RunHits}
 use Rattle.plan_runs.specs.declared.run_merge.RunMerge.{RunMerge}
 use Rattle.plan_runs.specs.declared.run_near.RunNear.{RunNear}
@@ -26,7 +28,7 @@ use Rattle.index_phrases.specs.declared.word_terms.WordTerms.{WordTerms}
 use Rattle.plan_runs.specs.declared.run_node.RunNode.{RunNode}
 use Rattle.plan_runs.specs.declared.run_node.RunNode as R
 use Rattle.plan_runs.proofs.SumLemmas.{so_far}
-use Rattle.plan_runs.proofs.RunViews.{shape-Words, shape-Or, shape-And, shape-Not, shape-Ways, shape-Near, shape-Hits, shape-Merge, shape-Placed}
+use Rattle.plan_runs.proofs.RunViews.{shape-Words, shape-Or, shape-And, shape-Not, shape-Ways, shape-Near, shape-Hits, shape-Merge, shape-Placed, shape-Counted}
 
 module _ (version : List Numbered) (asked : AskedSpan) (node : RunNode) where
   -- ---- when they fit
@@ -69,6 +71,10 @@ module _ (version : List Numbered) (asked : AskedSpan) (node : RunNode) where
   unfolding IsSound
   sound-Placed run is h = subst (IsSound version) (ap shape is ∙ shape-Placed run) h
 
+  pub sound-Counted : (run : RunCounts) → node ≡ R.Counted run → IsSound version (shape node) → AreCounts version (counts_shape run)
+  unfolding IsSound
+  sound-Counted run is h = subst (IsSound version) (ap shape is ∙ shape-Counted run) h
+
   -- ---- what they say
 
   pub says-Words : (run : RunWords) → node ≡ R.Words run → words_say version (words_shape run) (words_in version asked) ≡ run_truth version (shape node) asked
@@ -107,6 +113,10 @@ module _ (version : List Numbered) (asked : AskedSpan) (node : RunNode) where
   unfolding run_truth
   says-Placed run is = sym (ap (λ s. run_truth version s asked) (ap shape is ∙ shape-Placed run))
 
+  pub says-Counted : (run : RunCounts) → node ≡ R.Counted run → counts_say version (counts_shape run) asked ≡ run_truth version (shape node) asked
+  unfolding run_truth
+  says-Counted run is = sym (ap (λ s. run_truth version s asked) (ap shape is ∙ shape-Counted run))
+
 -- ---- what they look like
 
 module _ (node : RunNode) where
@@ -136,6 +146,9 @@ module _ (node : RunNode) where
 
   pub same-Placed : (old new : RunPlaced) → node ≡ R.Placed old → placed_shape new ≡ placed_shape old → shape (R.Placed new) ≡ shape node
   same-Placed old new is same = shape-Placed new ∙ ap by_spots same ∙ sym (ap shape is ∙ shape-Placed old)
+
+  pub same-Counted : (old new : RunCounts) → node ≡ R.Counted old → counts_shape new ≡ counts_shape old → shape (R.Counted new) ≡ shape node
+  same-Counted old new is same = shape-Counted new ∙ ap by_counts same ∙ sym (ap shape is ∙ shape-Counted old)
 
 -- ---- lists of parts
 
@@ -182,6 +195,7 @@ unfoldable mutual
   weight (by_hits run) = 1
   weight (by_merge merge) = 1
   weight (by_spots run) = 1
+  weight (by_counts run) = 1
 
   pub weights : Shapes → ℕ
   weights none = 0
@@ -268,6 +282,10 @@ module _ (node : RunNode) where
   pub cheap-Placed : (run : RunPlaced) → node ≡ R.Placed run → is_cheap_shape (shape node) ≡ false
   unfolding is_cheap_shape
   cheap-Placed run is = ap is_cheap_shape (ap shape is ∙ shape-Placed run)
+
+  pub cheap-Counted : (run : RunCounts) → node ≡ R.Counted run → is_cheap_shape (shape node) ≡ false
+  unfolding is_cheap_shape
+  cheap-Counted run is = ap is_cheap_shape (ap shape is ∙ shape-Counted run)
 
 pub cheap_are : (shapes : List Shape) → are_cheap_shapes (shapes_of shapes) ≡ list_all is_cheap_shape shapes
 unfolding are_cheap_shapes

@@ -1,6 +1,7 @@
 pub mod RunCode
 pub mod ChosenTerms
 pub mod MarkedTerms
+pub mod Counts
 pub mod Merges
 pub mod NearRuns
 pub mod Passes

@@ -8,6 +8,7 @@ ghost use Rattle.plan_runs.specs.steps.RunTruth.{AreSound, IsSound, all_true, ru
 ghost use Rattle.plan_runs.specs.steps.AskedPlaces.{asked_at};
 
 use crate::asked_place::AskedPlace;
+use crate::counts_holding::counts_hold;
 use crate::hits_holding::hits_hold;
 use crate::merge_holding::merge_holds;
 use crate::near_holding::near_holds;
@@ -42,6 +43,7 @@ pub(crate) fn node_holds<'v, L: Ledger>(
         RunNode::Hits(hits) => hits_hold(place, hits, moves),
         RunNode::Merge(merge) => merge_holds(place, merge, moves),
         RunNode::Placed(placed) => placed_holds(place, placed, moves),
+        RunNode::Counted(counts) => counts_hold(place, counts, moves),
     }
 }
 

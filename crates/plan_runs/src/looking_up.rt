@@ -39,6 +39,7 @@ pub(crate) fn look_up(doc: DocId, node: &mut RunNode<'_>) -> bool
         RunNode::Hits(hits) => look_hits_up(doc, hits),
         RunNode::Merge(merge) => look_merge_up(doc, merge),
         RunNode::Placed(placed) => look_placed_up(doc, placed),
+        RunNode::Counted(_counts) => true,
     }
 }
 

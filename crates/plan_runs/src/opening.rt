@@ -12,6 +12,7 @@ ghost use Rattle.index_phrases.specs.steps.Aiming.{size_of, sizes_of, variant_wo
 ghost use Rattle.plan_runs.specs.steps.RunShapes.{group_shape, phrase_shape, shape, words_shape};
 
 use crate::choosing::{Opening, terms_for};
+use crate::opening_counts::open_counts;
 use crate::opening_hits::open_hits;
 use crate::opening_merges::open_merge;
 use crate::opening_near::open_near;
@@ -37,6 +38,7 @@ pub(crate) fn open_node<'v>(opening: &Opening<'v>, node: &Node) -> Result<RunNod
         Node::And(parts) => Ok(RunNode::And(open_all(opening, parts)?)),
         Node::Not(part) => Ok(RunNode::Not(open_boxed(opening, part)?)),
         Node::Ways(plan) => open_filtered(opening, plan),
+        Node::Counted(plan) => Ok(RunNode::Counted(open_counts(opening, plan)?)),
     }
 }
 

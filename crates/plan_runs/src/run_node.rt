@@ -1,5 +1,6 @@
 //! The tree of a run: the compiled selection, with the terms of a version and cursors in place of tests of words.
 
+use crate::run_counts::RunCounts;
 use crate::run_hits::RunHits;
 use crate::run_merge::RunMerge;
 use crate::run_near::RunNear;
@@ -29,6 +30,8 @@ pub(crate) enum RunNode<'v> {
     Merge(RunMerge<'v>),
     /// A phrase at an edge of the text, or outside another one, by the spots at which they stand.
     Placed(RunPlaced<'v>),
+    /// Words that are counted in one window, sentence or paragraph.
+    Counted(RunCounts<'v>),
 }
 
 /// The words of a selection.

@@ -45,6 +45,7 @@ pub(crate) fn skip<L: Ledger>(
         RunNode::Hits(hits) => needs_skip(doc, part, &hits.needs, moves),
         RunNode::Merge(merge) => merge_skip(doc, part, &merge.words, moves),
         RunNode::Placed(placed) => placed_skip(doc, part, placed, moves),
+        RunNode::Counted(_counts) => Some(0),
     }
 }
 

@@ -1,6 +1,6 @@
 -- Trees of runs that count words and merge single words, and do nothing else: what their words cost bounds their moves.
 use Rattle.std.specs.Prelude.{Bool, true, false, ◌&&◌}
-use Rattle.plan_runs.specs.steps.RunShapes.{Shape, Shapes, words, any_of, all_of, not_of, by_ways, by_near, by_hits, by_merge, by_spots, none, more}
+use Rattle.plan_runs.specs.steps.RunShapes.{Shape, Shapes, words, any_of, all_of, not_of, by_ways, by_near, by_hits, by_merge, by_spots, by_counts, none, more}
 
 unfoldable mutual
   pub is_cheap_shape : Shape → Bool
@@ -13,6 +13,7 @@ unfoldable mutual
   is_cheap_shape (by_hits run) = false
   is_cheap_shape (by_merge merge) = true
   is_cheap_shape (by_spots run) = false
+  is_cheap_shape (by_counts run) = false
 
   pub are_cheap_shapes : Shapes → Bool
   are_cheap_shapes none = true

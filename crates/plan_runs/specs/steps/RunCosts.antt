@@ -7,7 +7,7 @@ use Rattle.plan_runs.specs.steps.AskedPlaces.{hits_at}
 use Rattle.plan_runs.specs.steps.ChosenTerms.{numbers_of}
 use Rattle.plan_runs.specs.steps.Merges.{merge_cost}
 use Rattle.plan_runs.specs.steps.RunShapes.{GroupShape, WordsShape, Shape, Shapes, none, more}
-use Rattle.plan_runs.specs.steps.RunShapes.{words, any_of, all_of, not_of, by_ways, by_near, by_hits, by_merge, by_spots}
+use Rattle.plan_runs.specs.steps.RunShapes.{words, any_of, all_of, not_of, by_ways, by_near, by_hits, by_merge, by_spots, by_counts}
 use Rattle.plan_runs.specs.declared.asked_place.AskedPlace.{AskedPlace}
 use Rattle.index_phrases.specs.declared.word_terms.WordTerms.{WordTerms}
 use Rattle.index_phrases.specs.declared.word_terms.WordTerms.TheVariants as Terms
@@ -33,6 +33,7 @@ module _ (cost : WordTerms → ℕ) where
     run_cost (by_hits run) = 0
     run_cost (by_merge merge) = merge_cost cost merge
     run_cost (by_spots run) = 0
+    run_cost (by_counts run) = 0
 
     pub run_costs : Shapes → ℕ
     run_costs none = 0

@@ -13,11 +13,17 @@ use Rattle.phrase_merges.specs.NearTrees.{near_aims, near_lists}
 use Rattle.phrase_merges.specs.Rows.{all_aims}
 use Rattle.spot_merges.specs.declared.edge.Edge.{Edge}
 use Rattle.spot_merges.specs.declared.outside.Outside.{Outside}
+use Rattle.count_merges.specs.declared.item.CountedItem.{CountedItem}
+use Rattle.count_merges.specs.declared.item.VariantGroup.{VariantGroup}
+use Rattle.plan_runs.specs.steps.Counts.{CountsShape, GroupSizes, TermCounts, TermGroups}
 use Rattle.plan_runs.specs.steps.Merges.{MergeShape}
 use Rattle.plan_runs.specs.steps.NearRuns.{NearShape}
 use Rattle.plan_runs.specs.steps.Skips.{skip_of}
 use Rattle.plan_runs.specs.steps.OpenedOperators.{aims_of}
 use Rattle.plan_runs.specs.steps.Passes.{HitsShape}
+use Rattle.plan_runs.specs.declared.run_counts.CountedTerms.{CountedTerms}
+use Rattle.plan_runs.specs.declared.run_counts.RunCounts.{RunCounts}
+use Rattle.plan_runs.specs.declared.run_counts.TermGroup.{TermGroup}
 use Rattle.plan_runs.specs.declared.run_hits.RunHits.{RunHits}
 use Rattle.plan_runs.specs.declared.run_merge.RunMerge.{RunMerge}
 use Rattle.plan_runs.specs.declared.run_near.RunNear.{RunNear}
@@ -61,6 +67,7 @@ mutual
     by_hits : HitsShape → Shape
     by_merge : MergeShape → Shape
     by_spots : PlacedShape → Shape
+    by_counts : CountsShape → Shape
 
   pub data Shapes : Type 0 where
     none : Shapes
@@ -102,6 +109,38 @@ abbrev pub placed_shape : RunPlaced → PlacedShape
 placed_shape (AtEdge phrase) = at_edge phrase.edge (map variant_words phrase.variants.items)
 placed_shape (Apart phrases) = outside phrases.outside (group_shape phrases.left) (group_shape phrases.right)
 
+-- variants of one length, by the terms of each word
+abbrev pub term_groups : List TermGroup → TermGroups
+term_groups groups = map (λ group. (group.words, map variant_words group.variants.items)) groups
+
+abbrev pub term_counts : CountedTerms → TermCounts
+term_counts item = record { least = item.least; most = item.most; groups = term_groups item.groups.items }
+
+-- of an item with cursors its bounds, and how many cursors there are in front and at the back
+abbrev pub item_bounds : CountedItem HitPlace → ℕ × Option ℕ
+item_bounds item = (item.least, item.most)
+
+abbrev pub front_sizes : List (VariantGroup HitPlace) → GroupSizes
+front_sizes groups = map (λ group. (group.words, map sizes_of group.front.items)) groups
+
+abbrev pub back_sizes : List (VariantGroup HitPlace) → GroupSizes
+back_sizes groups = map (λ group. (group.words, map sizes_of group.back.items)) groups
+
+abbrev pub item_fronts : CountedItem HitPlace → GroupSizes
+item_fronts item = front_sizes item.groups.items
+
+abbrev pub item_backs : CountedItem HitPlace → GroupSizes
+item_backs item = back_sizes item.groups.items
+
+abbrev pub counts_shape : RunCounts → CountsShape
+counts_shape run = record {
+  field = run.field;
+  words = map term_counts run.words.items;
+  bounds = map item_bounds run.items.items;
+  fronts = map item_fronts run.items.items;
+  backs = map item_backs run.items.items;
+}
+
 -- one level, with the shape of each part
 abbrev pub layer : RunNode-F Shape → Shape
 layer (RunNode-F.Words run) = words (words_shape run)
@@ -113,6 +152,7 @@ layer (RunNode-F.Near run) = by_near (near_shape run.value)
 layer (RunNode-F.Hits run) = by_hits (hits_shape run.value)
 layer (RunNode-F.Merge run) = by_merge (merge_shape run)
 layer (RunNode-F.Placed run) = by_spots (placed_shape run)
+layer (RunNode-F.Counted run) = by_counts (counts_shape run)
 
 unfoldable pub shape : RunNode → Shape
 shape = fold-RunNode Shape layer

@@ -6,7 +6,7 @@ use Rattle.index_versions.specs.FirstPlaces.{soonest}
 use Rattle.index_versions.specs.Terms.{VersionTerm, first_in}
 use Rattle.plan_runs.specs.steps.Merges.{MergeShape}
 use Rattle.plan_runs.specs.steps.RunShapes.{GroupShape, WordsShape, PlacedShape, at_edge, outside, Shape, Shapes, none, more}
-use Rattle.plan_runs.specs.steps.RunShapes.{words, any_of, all_of, not_of, by_ways, by_near, by_hits, by_merge, by_spots}
+use Rattle.plan_runs.specs.steps.RunShapes.{words, any_of, all_of, not_of, by_ways, by_near, by_hits, by_merge, by_spots, by_counts}
 use Rattle.plan_runs.specs.steps.Skips.{latest, variants_skip}
 
 module _ (doc : ℕ) (part : Span) where
@@ -41,6 +41,7 @@ module _ (doc : ℕ) (part : Span) where
     skip (by_hits run) = run.skips doc part
     skip (by_merge merge) = merge_skip merge
     skip (by_spots run) = placed_skip run
+    skip (by_counts run) = Some 0
 
     pub skips : Shapes → List (Option ℕ)
     skips none = []

@@ -11,6 +11,7 @@ use Rattle.ft_operators.specs.Walk.{own_span}
 use Rattle.index_meaning.specs.Documents.{Numbered}
 use Rattle.plan_runs.specs.steps.AskedSpans.{AskedSpan, words_in}
 use Rattle.plan_runs.specs.steps.ChosenTerms.{is_among, numbers_of}
+use Rattle.plan_runs.specs.steps.Counts.{AreCounts, counts_say}
 use Rattle.plan_runs.specs.steps.Merges.{IsMerge, merge_says}
 use Rattle.plan_runs.specs.steps.NearRuns.{AreNear}
 use Rattle.plan_runs.specs.steps.OpenedOperators.{AreAims}
@@ -18,7 +19,7 @@ use Rattle.plan_runs.specs.steps.Passes.{AreHits, hits_say}
 use Rattle.index_phrases.specs.steps.Aiming.{AreThere, wanted_size}
 use Rattle.plan_runs.specs.steps.Skips.{IsWithin, ends_before}
 use Rattle.plan_runs.specs.steps.RunShapes.{GroupShape, WaysShape, WordsShape, PlacedShape, at_edge, outside}
-use Rattle.plan_runs.specs.steps.RunShapes.{Shape, Shapes, words, any_of, all_of, not_of, by_ways, by_near, by_hits, by_merge, none, more, by_spots}
+use Rattle.plan_runs.specs.steps.RunShapes.{Shape, Shapes, words, any_of, all_of, not_of, by_ways, by_near, by_hits, by_merge, none, more, by_spots, by_counts}
 use Rattle.index_phrases.specs.Phrases.{wanted_at}
 use Rattle.place_merges.specs.declared.spot.Spot.{Spot}
 use Rattle.spot_merges.specs.Edges.{is_at, spots_of}
@@ -70,6 +71,7 @@ unfoldable mutual
   run_truth version (by_hits run) asked = hits_say run asked
   run_truth version (by_merge merge) asked = merge_says version merge asked
   run_truth version (by_spots run) asked = placed_say version run asked
+  run_truth version (by_counts run) asked = counts_say version run asked
 
   pub some_true : List Numbered → Shapes → AskedSpan → Bool
   some_true version none asked = false
@@ -110,6 +112,7 @@ unfoldable mutual
   IsSound version (by_hits run) = AreHits version run
   IsSound version (by_merge merge) = IsMerge version merge
   IsSound version (by_spots run) = ArePlaced version run
+  IsSound version (by_counts run) = AreCounts version run
 
   pub AreSound : List Numbered → Shapes → Type 0
   AreSound version none = ⊤

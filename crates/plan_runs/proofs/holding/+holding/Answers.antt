@@ -2,8 +2,9 @@
 use Rattle.std.proofs.Common.{◌≡◌, ◌∙◌, ◌||◌, ◌&&◌, Bool, true, true≢false, ap, sym, not, refl, rules, map, drop, ◌+◌, arith, subst, Box, Global, Vec}
 use Rattle.plan_runs.specs.steps.CheapShapes.{are_cheap_shapes, is_cheap_shape}
 use Rattle.plan_runs.specs.steps.RunCosts.{moves_for, run_cost, run_costs, words_cost}
-use Rattle.plan_runs.specs.steps.RunShapes.{hits_shape, merge_shape, near_shape, shape, shapes_of, words_shape, placed_shape}
+use Rattle.plan_runs.specs.steps.RunShapes.{hits_shape, merge_shape, near_shape, shape, shapes_of, words_shape, placed_shape, counts_shape}
 use Rattle.plan_runs.specs.steps.Passes.{AreHits, hits_say}
+use Rattle.plan_runs.specs.steps.Counts.{AreCounts, counts_say}
 use Rattle.plan_runs.specs.steps.Merges.{IsMerge, merge_cost, merge_says}
 use Rattle.plan_runs.specs.steps.NearRuns.{AreNear}
 use Rattle.plan_runs.specs.steps.OpenedOperators.{AreAims, aims_of}
@@ -11,6 +12,7 @@ use Rattle.plan_runs.specs.steps.Skips.{skip_of}
 use Rattle.plan_runs.specs.steps.RunTruth.{ArePlaced, AreSound, IsSound, IsWords, all_true, aims_say, placed_say, run_truth, some_true, words_say}
 use Rattle.plan_runs.specs.steps.AskedPlaces.{asked_at, text_at}
 use Rattle.plan_runs.specs.declared.run_node.RunNode.{RunNode, the_lemmas}
+use Rattle.plan_runs.specs.declared.run_counts.RunCounts.{RunCounts}
 use Rattle.plan_runs.specs.declared.run_hits.RunHits.{RunHits}
 use Rattle.plan_runs.specs.declared.run_merge.RunMerge.{RunMerge}
 use Rattle.plan_runs.specs.declared.run_near.RunNear.{RunNear}
@@ -20,7 +22,7 @@ use Rattle.plan_runs.specs.declared.run_placed.RunPlaced.{RunPlaced}
 use Rattle.plan_runs.specs.declared.run_ways.RunWays.{RunWays}
 use Rattle.index_phrases.proofs.PartLemmas.{as_many, holds_at, part_at, parts_kept}
 use Rattle.plan_runs.proofs.SumLemmas.{one_more}
-use Rattle.plan_runs.proofs.TreeLemmas.{all_end, all_more, cost-And, cost-Merge, cost-Not, cost-Or, cost-Words, costs_so_far, each_sound, same-And, same-Hits, same-Merge, same-Near, same-Not, same-Or, same-Ways, same-Words, says-And, says-Hits, says-Merge, says-Near, says-Not, says-Or, says-Ways, says-Words, some_end, some_more, sound-And, sound-Hits, sound-Merge, sound-Near, sound-Not, sound-Or, sound-Ways, sound-Words, weight, weights, weight_at, weight-And, weight-Not, weight-Or, cheap-And, cheap-Hits, cheap-Near, cheap-Not, cheap-Or, cheap-Placed, cheap-Ways, each_cheap, same-Placed, says-Placed, sound-Placed}
+use Rattle.plan_runs.proofs.TreeLemmas.{all_end, all_more, cost-And, cost-Merge, cost-Not, cost-Or, cost-Words, costs_so_far, each_sound, same-And, same-Hits, same-Merge, same-Near, same-Not, same-Or, same-Ways, same-Words, says-And, says-Hits, says-Merge, says-Near, says-Not, says-Or, says-Ways, says-Words, some_end, some_more, sound-And, sound-Hits, sound-Merge, sound-Near, sound-Not, sound-Or, sound-Ways, sound-Words, cheap-Counted, same-Counted, says-Counted, sound-Counted, weight, weights, weight_at, weight-And, weight-Not, weight-Or, cheap-And, cheap-Hits, cheap-Near, cheap-Not, cheap-Or, cheap-Placed, cheap-Ways, each_cheap, same-Placed, says-Placed, sound-Placed}
 use Rattle.plan_runs.proofs.holding.+holding.Goals as goal
 
 pub node_holds-words_hold-requires : goal.node_holds-words_hold-requires
@@ -159,6 +161,21 @@ node_holds-returns-in-Placed-clause-says g t c =
 pub node_holds-returns-in-Placed-clause-same : goal.node_holds-returns-in-Placed-clause-same
 node_holds-returns-in-Placed-clause-same g t c =
     let same = same-Placed (R.Placed c.in-Placed.placed) c.in-Placed.placed c.placed_holds.new.placed refl (c.placed_holds.ensures.same ∙ ap placed_shape c.in-Placed.placed-is) in rw c.in-Placed.is (search (rules, the_lemmas, same))
+
+pub node_holds-counts_hold-requires : goal.node_holds-counts_hold-requires
+node_holds-counts_hold-requires g t c =
+    subst (λ (run : RunCounts). AreCounts c.args.place.now.version.now (counts_shape run)) (sym c.in-Counted.counts-is) (sound-Counted c.args.place.now.version.now (asked_at c.args.place.now) c.args.node.now c.in-Counted.counts c.in-Counted.is c.requires)
+
+pub node_holds-returns-in-Counted-clause-says : goal.node_holds-returns-in-Counted-clause-says
+node_holds-returns-in-Counted-clause-says g t c =
+    c.counts_hold.ensures.says ∙ ap (λ (run : RunCounts). counts_say c.args.place.now.version.now (counts_shape run) (asked_at c.args.place.now)) c.in-Counted.counts-is ∙ says-Counted c.args.place.now.version.now (asked_at c.args.place.now) c.args.node.now c.in-Counted.counts c.in-Counted.is
+
+pub node_holds-returns-in-Counted-clause-same : goal.node_holds-returns-in-Counted-clause-same
+node_holds-returns-in-Counted-clause-same g t c =
+    let same = same-Counted (R.Counted c.in-Counted.counts) c.in-Counted.counts c.counts_hold.new.counts refl (c.counts_hold.ensures.same ∙ ap counts_shape c.in-Counted.counts-is) in rw c.in-Counted.is (search (rules, the_lemmas, same))
+
+pub node_holds-returns-in-Counted-clause-price : goal.node_holds-returns-in-Counted-clause-price
+node_holds-returns-in-Counted-clause-price g t c h = absurd (true≢false (sym h ∙ cheap-Counted c.args.node.now c.in-Counted.counts c.in-Counted.is))
 
 pub node_holds-returns-in-Placed-clause-price : goal.node_holds-returns-in-Placed-clause-price
 node_holds-returns-in-Placed-clause-price g t c h = absurd (true≢false (sym h ∙ cheap-Placed c.args.node.now c.in-Placed.placed c.in-Placed.is))

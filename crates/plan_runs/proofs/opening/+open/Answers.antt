@@ -4,6 +4,7 @@ use Rattle.plan_compiler.specs.declared.node.Node.{Node}
 use Rattle.plan_runs.specs.declared.run_node.RunNode.{RunNode}
 use Rattle.plan_runs.specs.steps.OpenedWords.{IsOpened}
 use Rattle.plan_runs.specs.steps.RunShapes.{shape}
+use Rattle.plan_runs.proofs.OpenedCounts.{counts_opened}
 use Rattle.plan_runs.proofs.OpenedLemmas.{and_opened, not_opened, opened_more, or_opened, words_opened}
 use Rattle.plan_runs.proofs.opening.+open.Goals as goal
 
@@ -33,3 +34,7 @@ open_node-returns-in-Ways t c =
     let opening = c.args.opening.now in
     subst (λ (node : Node). IfOk c.open_filtered.result (λ (run : RunNode). IsOpened opening.looks opening.lists.now.stems opening.version.now (shape run) node))
     (sym c.in-Ways.is) c.open_filtered.ensures
+
+pub open_node-returns-in_ok-open_counts-in-Counted : goal.open_node-returns-in_ok-open_counts-in-Counted
+open_node-returns-in_ok-open_counts-in-Counted t c =
+    counts_opened c.args.opening.now.looks c.args.opening.now.lists.now.stems c.args.opening.now.version.now c.in_ok-open_counts-in-Counted.field-0 c.in-Counted.plan c.args.node.now c.in-Counted.is c.in_ok-open_counts-in-Counted.ensures

@@ -10,8 +10,8 @@ use Rattle.plan_runs.specs.steps.RunSkips.{skip}
 use Rattle.plan_runs.specs.steps.Skips.{later, latest, skip_of}
 use Rattle.plan_runs.proofs.SkipLemmas.{fold_more, one_is_none}
 use Rattle.plan_runs.proofs.SumLemmas.{one_more}
-use Rattle.plan_runs.proofs.TreeLemmas.{cheap-And, cheap-Hits, cheap-Near, cheap-Or, cheap-Placed, cheap-Ways, cost-And, cost-Merge, cost-Or, cost-Words, costs_so_far, each_cheap}
-use Rattle.plan_runs.proofs.RunSkipLaw.{skip-Words, skip-Or, skip-And, skip-Not, skip-Ways, skip-Near, skip-Hits, skip-Merge, words_listed, skip-Placed}
+use Rattle.plan_runs.proofs.TreeLemmas.{cheap-And, cheap-Counted, cheap-Hits, cheap-Near, cheap-Or, cheap-Placed, cheap-Ways, cost-And, cost-Merge, cost-Or, cost-Words, costs_so_far, each_cheap}
+use Rattle.plan_runs.proofs.RunSkipLaw.{skip-Words, skip-Or, skip-And, skip-Not, skip-Ways, skip-Near, skip-Hits, skip-Merge, words_listed, skip-Placed, skip-Counted}
 use Rattle.plan_runs.specs.declared.run_hits.RunHits.{RunHits}
 use Rattle.plan_runs.specs.declared.run_near.RunNear.{RunNear}
 use Rattle.plan_runs.specs.declared.run_ways.RunWays.{RunWays}
@@ -60,6 +60,11 @@ skip-returns-in-Merge-clause-says g t c =
     let doc = c.args.doc.0 in
     c.merge_skip.ensures.says ∙ sym (ap (λ n. skip doc c.args.part (shape n)) c.in-Merge.is ∙ skip-Merge doc c.args.part c.in-Merge.merge)
 
+pub skip-returns-in-Counted-clause-says : goal.skip-returns-in-Counted-clause-says
+skip-returns-in-Counted-clause-says g t c =
+    let doc = c.args.doc.0 in
+    sym (ap (λ n. skip doc c.args.part (shape n)) c.in-Counted.is ∙ skip-Counted doc c.args.part c.in-Counted._counts)
+
 pub skip-returns-in-Placed-clause-says : goal.skip-returns-in-Placed-clause-says
 skip-returns-in-Placed-clause-says g t c =
     let doc = c.args.doc.0 in
@@ -100,6 +105,9 @@ pub skip-returns-in-Merge-clause-price : goal.skip-returns-in-Merge-clause-price
 skip-returns-in-Merge-clause-price g t c =
     let whole = cost-Merge term_count c.args.node.now c.in-Merge.merge c.in-Merge.is in
     λ h. omega (arith, c.merge_skip.ensures.price, whole)
+
+pub skip-returns-in-Counted-clause-price : goal.skip-returns-in-Counted-clause-price
+skip-returns-in-Counted-clause-price g t c h = absurd (true≢false (sym h ∙ cheap-Counted c.args.node.now c.in-Counted._counts c.in-Counted.is))
 
 pub skip-returns-in-Placed-clause-price : goal.skip-returns-in-Placed-clause-price
 skip-returns-in-Placed-clause-price g t c h = absurd (true≢false (sym h ∙ cheap-Placed c.args.node.now c.in-Placed.placed c.in-Placed.is))
