@@ -1,13 +1,15 @@
 -- The least places of a selection, as its parts give them.
-use Rattle.std.proofs.Common.{◌≡◌, ℕ, List, [], ◌∷◌, ◌++◌, Option, Some, None, map, flat_map, option_map, refl, sym, ap, ◌∙◌, ◌+◌, ◌<◌, length, take, get_or, append-nil}
+use Rattle.std.proofs.Common.{◌≡◌, ℕ, Bool, true, false, cond, List, [], ◌∷◌, ◌++◌, Option, Some, None, map, flat_map, option_map, refl, sym, ap, ◌∙◌, ◌+◌, ◌<◌, length, take, get_or, append-nil}
 use Rattle.std.proofs.lemmas.List.{map-append, take_more}
 use Rattle.std.proofs.lemmas.List.Concat.{flat_map-append}
 use Rattle.std.specs.Option.{option_to_list}
 use Rattle.ft_base.specs.declared.filter.Filter.{Filter}
+use Rattle.counted_shapes.specs.Accepted.{is_counted}
+use Rattle.selection_grammar.specs.Form.{form_of}
 use Rattle.selection_grammar.specs.declared.parsed.ParsedWords.{ParsedWords}
 use Rattle.selection_grammar.specs.declared.parsed.PlacedOption.{PlacedOption}
 use Rattle.selection_grammar.specs.Tree.{Tree, words, or_of, and_of, mild_not, not_of, filtered, with_options, trees_of}
-use Rattle.selection_faults.specs.Excludes.{within, within_all, nots, times, excludes, nested_nots, inside_filters, not_place, times_place, operand_nots, operand_excludes, filtered_excludes}
+use Rattle.selection_faults.specs.Excludes.{within, within_all, nots, times, excludes, nested_nots, inside_filters, not_place, times_place, operand_nots, operand_excludes, filtered_excludes, uncounted_times}
 use Rattle.selection_faults.specs.Least.{itself, least_place}
 use Rattle.selection_faults.specs.LeastPlaces.{least_in, least_of, least_places, least_places_of, of_words, both, of_mild_not, of_not, of_filtered, of_with, sooner}
 use Rattle.selection_faults.specs.Options.{own_second_option, second_option, options_twice}
@@ -75,9 +77,14 @@ pub least_not : (at : ℕ) (operand : Tree) → of_not at (least_places operand)
 unfolding within least_places
 least_not at operand = sym (six refl refl (place_append (nots operand) (nested_nots operand)) refl refl refl)
 
-pub least_filtered : (operand : Tree) (filter : Filter) → of_filtered (least_places operand) ≡ least_places (filtered operand filter)
+least_unless : (counted : Bool) (places : List ℕ) → least_place (cond counted [] places) ≡ cond counted None (least_place places)
+least_unless true places = refl
+least_unless false places = refl
+
+pub least_filtered : (operand : Tree) (filter : Filter) → of_filtered (is_counted (form_of operand) filter) (least_places operand) ≡ least_places (filtered operand filter)
 unfolding within least_places
-least_filtered operand filter = sym (six refl refl refl refl refl (before (nested_nots operand ++ times operand) (inside_filters operand) (place_append (nested_nots operand) (times operand)) refl))
+least_filtered operand filter = sym (six refl refl refl refl refl (before (nested_nots operand ++ uncounted_times operand filter) (inside_filters operand)
+    (place_append (nested_nots operand) (uncounted_times operand filter) ∙ beside refl (least_unless (is_counted (form_of operand) filter) (times operand))) refl))
 
 pub least_with : (operand : Tree) (options : List PlacedOption) → of_with (least_places operand) options ≡ least_places (with_options operand options)
 unfolding within least_places

@@ -4,3 +4,4 @@ pub mod OptionsLemmas
 pub mod WalkLemmas
 pub mod FormViews
 pub mod KindsLemmas
+pub mod TreeViews

@@ -1,5 +1,6 @@
 -- Selections for examples.
-use Rattle.std.specs.Prelude.{ℕ, zero, suc, ◌+◌, ◌*◌, List, [], ◌∷◌, Option, Some, None}
+use Rattle.std.specs.Prelude.{ℕ, zero, suc, ◌+◌, List, [], ◌∷◌, Some, None}
+use Rattle.ft_base.specs.declared.range.Range.{Range}
 use Rattle.ft_base.specs.declared.range.Range.TheVariants.{AtLeast}
 use Rattle.ft_base.specs.declared.words.Mode.{Mode}
 use Rattle.ft_base.specs.declared.words.Mode.TheVariants as M
@@ -7,7 +8,6 @@ use Rattle.selection_grammar.specs.Tree.{Tree, words}
 use Rattle.selection_grammar.specs.declared.parsed.MatchOption.{MatchOption}
 use Rattle.selection_grammar.specs.declared.parsed.PlacedOption.{PlacedOption}
 use Rattle.selection_grammar.specs.declared.parsed.PlacedString.{PlacedString}
-use Rattle.selection_grammar.specs.declared.parsed.PlacedTimes.{PlacedTimes}
 
 abbrev pub string : ℕ → List ℕ → PlacedString
 string at text = record { at = at; text = text }
@@ -23,9 +23,12 @@ abbrev pub quoted : ℕ → List ℕ → Tree
 quoted at text = quoted_with at text []
 
 -- one string with `occurs` after it
+abbrev pub occurring : Mode → Range → ℕ → List ℕ → ℕ → Tree
+occurring mode range at text times_at =
+    words (record { strings = string at text ∷ []; mode = mode; times = Some record { at = times_at; range = range }; options = [] })
+
 abbrev pub counted : ℕ → List ℕ → ℕ → Tree
-counted at text times_at =
-    words (record { strings = string at text ∷ []; mode = M.Any; times = Some record { at = times_at; range = AtLeast 1 }; options = [] })
+counted at text times_at = occurring M.Any (AtLeast 1) at text times_at
 
 -- so many strings of one letter, each nine bytes after the one before
 abbrev pub strings_from : ℕ → ℕ → List PlacedString

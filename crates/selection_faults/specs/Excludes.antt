@@ -1,7 +1,10 @@
 -- Where a selection holds what makes excludes: `ftnot` and `occurs` (XQuery and XPath Full Text 3.0, sections 3.5.3 and 3.2.5), and where
 -- they are not allowed.
-use Rattle.std.specs.Prelude.{ℕ, List, [], ◌∷◌, ◌++◌, flat_map, option_map}
+use Rattle.std.specs.Prelude.{ℕ, if◌then◌else◌, List, [], ◌∷◌, ◌++◌, flat_map, option_map}
 use Rattle.std.specs.Option.{option_to_list}
+use Rattle.ft_base.specs.declared.filter.Filter.{Filter}
+use Rattle.counted_shapes.specs.Accepted.{is_counted}
+use Rattle.selection_grammar.specs.Form.{form_of}
 use Rattle.selection_grammar.specs.Tree.{Tree, Trees, words, or_of, and_of, mild_not, not_of, filtered, with_options, none, more}
 
 -- a selection, and all that stand inside it
@@ -56,9 +59,14 @@ operand_nots other = []
 abbrev pub nested_nots : Tree → List ℕ
 nested_nots tree = flat_map operand_nots (within tree)
 
--- in a selection with a filter, each `ftnot` in the operand of another one there, and each `occurs`
+-- each `occurs` under a filter, unless the two are a counted shape
+abbrev pub uncounted_times : Tree → Filter → List ℕ
+uncounted_times operand filter = if is_counted (form_of operand) filter then [] else times operand
+
+-- in a selection with a filter, each `ftnot` in the operand of another one there, and each `occurs` that isn't counted. In a counted shape no
+-- selection has a filter, so that of several filters round an `occurs` the outermost decides.
 abbrev pub filtered_excludes : Tree → List ℕ
-filtered_excludes (filtered operand filter) = nested_nots operand ++ times operand
+filtered_excludes (filtered operand filter) = nested_nots operand ++ uncounted_times operand filter
 filtered_excludes other = []
 
 abbrev pub inside_filters : Tree → List ℕ

@@ -1,5 +1,5 @@
 -- The least places in a selection, as its parts give them.
-use Rattle.std.specs.Prelude.{ℕ, List, flat_map, Option, Some, None, option_map}
+use Rattle.std.specs.Prelude.{ℕ, Bool, if◌then◌else◌, List, flat_map, Option, Some, None, option_map}
 use Rattle.selection_grammar.specs.Tree.{Tree}
 use Rattle.selection_grammar.specs.declared.parsed.PlacedOption.{PlacedOption}
 use Rattle.selection_grammar.specs.declared.parsed.ParsedWords.{ParsedWords}
@@ -60,8 +60,11 @@ of_mild_not left right = record (both left right) {
 abbrev pub of_not : ℕ → LeastPlaces → LeastPlaces
 of_not at operand = record operand { nots = sooner (Some at) operand.nots; nested_nots = sooner operand.nots operand.nested_nots }
 
-abbrev pub of_filtered : LeastPlaces → LeastPlaces
-of_filtered operand = record operand { inside_filters = sooner (sooner operand.nested_nots operand.times) operand.inside_filters }
+-- the test says whether the selection is a counted shape
+abbrev pub of_filtered : Bool → LeastPlaces → LeastPlaces
+of_filtered counted operand = record operand {
+  inside_filters = sooner (sooner operand.nested_nots (if counted then None else operand.times)) operand.inside_filters;
+}
 
 abbrev pub of_with : LeastPlaces → List PlacedOption → LeastPlaces
 of_with operand options = record operand { options_twice = sooner (second_option options) operand.options_twice }

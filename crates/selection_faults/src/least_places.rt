@@ -4,6 +4,7 @@ ghost use Rattle.std.specs.Prelude.{◌≡◌, map, option_map};
 ghost use Rattle.selection_grammar.specs.View.{tree};
 ghost use Rattle.selection_faults.specs.LeastPlaces as spec;
 
+use crate::counted::is_counted;
 use crate::options::second_option;
 use ft_base::Items;
 use selection_grammar::{Parsed, ParsedWords, PlacedOption};
@@ -21,7 +22,7 @@ pub(crate) struct LeastPlaces {
     pub options_twice: Option<usize>,
     /// an `ftnot` or `occurs` in an operand of `not in`
     pub mild_not_excludes: Option<usize>,
-    /// a nested `ftnot`, or an `occurs`, in a selection with a filter
+    /// a nested `ftnot` in a selection with a filter, or an `occurs` in one that is no counted shape
     pub inside_filters: Option<usize>,
 }
 
@@ -36,7 +37,9 @@ pub(crate) fn least_places(parsed: &Parsed) -> LeastPlaces
         Parsed::And(parts) => of_parts(parts),
         Parsed::MildNot(left, right) => mild_not(least_places(left), least_places(right)),
         Parsed::Not(at, operand) => negated(*at, least_places(operand)),
-        Parsed::Filtered(operand, _) => filtered(least_places(operand)),
+        Parsed::Filtered(operand, filter) => {
+            filtered(is_counted(operand, *filter), least_places(operand))
+        }
         Parsed::With(operand, options) => with_options(least_places(operand), options),
     }
 }
@@ -130,15 +133,13 @@ fn negated(at: usize, operand: LeastPlaces) -> LeastPlaces
     }
 }
 
-/// The least places in a selection with a filter, by those in its operand.
-fn filtered(operand: LeastPlaces) -> LeastPlaces
-    ensures { result ≡ spec.of_filtered operand }
+/// The least places in a selection with a filter, which is a counted shape or isn't one, by those in its operand.
+fn filtered(counted: bool, operand: LeastPlaces) -> LeastPlaces
+    ensures { result ≡ spec.of_filtered counted operand }
 {
+    let times = if counted { None } else { operand.times };
     LeastPlaces {
-        inside_filters: sooner(
-            sooner(operand.nested_nots, operand.times),
-            operand.inside_filters,
-        ),
+        inside_filters: sooner(sooner(operand.nested_nots, times), operand.inside_filters),
         ..operand
     }
 }

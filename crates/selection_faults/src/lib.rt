@@ -1,6 +1,7 @@
 //! What is wrong with a selection that was read, and the selection that it stands for.
 #![tactic(auto)]
 
+mod counted;
 pub mod examples;
 mod faults;
 mod given;

@@ -1,15 +1,16 @@
 -- Whether a selection holds excludes where they are not allowed is told by its form.
-use Rattle.std.proofs.Common.{◌≡◌, ℕ, Bool, true, false, List, [], ◌∷◌, ◌++◌, Option, Some, None, option_map, refl, ◌∙◌, ap, ◌||◌}
+use Rattle.std.proofs.Common.{◌≡◌, ℕ, Bool, true, false, cond, List, [], ◌∷◌, ◌++◌, Option, Some, None, option_map, refl, ◌∙◌, ap, ◌||◌}
 use Rattle.std.proofs.lemmas.List.Concat.{flat_map-append}
 use Rattle.std.specs.Prelude.{flat_map}
 use Rattle.std.specs.Option.{is_some, option_to_list}
 use Rattle.ft_base.specs.Selection as form
 use Rattle.ft_base.specs.Selection.{Form, Forms}
+use Rattle.counted_shapes.specs.Accepted.{is_counted}
 use Rattle.selection_grammar.specs.Form.{form_of, forms_of}
 use Rattle.selection_grammar.specs.Tree as tree
 use Rattle.selection_grammar.specs.Tree.{Tree, Trees}
 use Rattle.selection_grammar.specs.declared.parsed.PlacedTimes.{PlacedTimes}
-use Rattle.selection_faults.specs.Excludes.{within, within_all, not_place, times_place, operand_nots, operand_excludes, filtered_excludes, nots, times, excludes, nested_nots}
+use Rattle.selection_faults.specs.Excludes.{within, within_all, not_place, times_place, operand_nots, operand_excludes, filtered_excludes, nots, times, excludes, nested_nots, uncounted_times}
 
 -- whether a list has members
 abbrev pub has_some : {A : Type 0} → List A → Bool
@@ -46,8 +47,8 @@ mild_marks a b = record (with_marks a b) { mild_not_excludes = ((a.nots || a.tim
 abbrev not_marks : Marks → Marks
 not_marks a = record a { nots = true; nested_nots = a.nots || a.nested_nots }
 
-abbrev filter_marks : Marks → Marks
-filter_marks a = record a { inside_filters = (a.nested_nots || a.times) || a.inside_filters }
+abbrev filter_marks : Bool → Marks → Marks
+filter_marks counted a = record a { inside_filters = (a.nested_nots || cond counted false a.times) || a.inside_filters }
 
 unfoldable mutual
   pub marks_of : Form → Marks
@@ -56,7 +57,7 @@ unfoldable mutual
   marks_of (form.and_of forms) = marks_of_all forms
   marks_of (form.mild_not left right) = mild_marks (marks_of left) (marks_of right)
   marks_of (form.not_of x) = not_marks (marks_of x)
-  marks_of (form.filtered x filter) = filter_marks (marks_of x)
+  marks_of (form.filtered x filter) = filter_marks (is_counted x filter) (marks_of x)
   marks_of (form.with_options x options) = marks_of x
 
   marks_of_all : Forms → Marks
@@ -94,6 +95,10 @@ seen_not : (at : ℕ) (t : Tree) → seen (tree.not_of at t) ≡ not_marks (seen
 unfolding within
 seen_not at t = same_five refl refl (some_append (nots t) (flat_map operand_nots (within t))) refl refl
 
+seen_unless : (counted : Bool) (places : List ℕ) → has_some (cond counted [] places) ≡ cond counted false (has_some places)
+seen_unless true places = refl
+seen_unless false places = refl
+
 mutual
   unfolding form_of marks_of within
 
@@ -104,8 +109,9 @@ mutual
   marks_same (tree.mild_not left right) = seen_mild left right ∙ ap (λ a. mild_marks a (seen right)) (marks_same left) ∙ ap (mild_marks (marks_of (form_of left))) (marks_same right)
   marks_same (tree.not_of at operand) = seen_not at operand ∙ ap not_marks (marks_same operand)
   marks_same (tree.filtered operand filter) =
-      same_five refl refl refl refl (some_append (nested_nots operand ++ times operand) (flat_map filtered_excludes (within operand)) ∙ either (some_append (nested_nots operand) (times operand)) refl)
-      ∙ ap filter_marks (marks_same operand)
+      same_five refl refl refl refl (some_append (nested_nots operand ++ uncounted_times operand filter) (flat_map filtered_excludes (within operand))
+      ∙ either (some_append (nested_nots operand) (uncounted_times operand filter) ∙ either refl (seen_unless (is_counted (form_of operand) filter) (times operand))) refl)
+      ∙ ap (filter_marks (is_counted (form_of operand) filter)) (marks_same operand)
   marks_same (tree.with_options operand options) = marks_same operand
 
   all_same : (trees : Trees) → seen_in (within_all trees) ≡ marks_of_all (forms_of trees)

@@ -4,8 +4,8 @@ use Rattle.std.specs.List.{list_all}
 use Rattle.std.proofs.lemmas.Bool.{and_from}
 use Rattle.std.proofs.lemmas.List.{map-append}
 use Rattle.std.proofs.lemmas.List.Folds.{list_all-append}
-use Rattle.all_matches.specs.Allowed.{is_allowed}
-use Rattle.allowed_selections.proofs.Allowed.{selects_allowed}
+use Rattle.counted_shapes.specs.Accepted.{is_accepted}
+use Rattle.allowed_selections.proofs.Allowed.{selects_accepted}
 use Rattle.path_grammar.specs.Form as form
 use Rattle.path_grammar.specs.Form.{joined, or_of, and_of}
 use Rattle.path_grammar.specs.Grammar.{Inside, Step, Steps, Predicate, Predicates, Ors, Ands, Primary, Rel, Path}
@@ -109,14 +109,14 @@ read-asks-below text value read =
     let spells = spelled text value read in
     subst (λ n. OfEach (λ k. k < n) value.path.steps) (as-many spells.selections) (asked-below _ value.path spells.insides spells.spells)
 
-each-allowed : {insides : List Inside} {found : List PlacedForm} → Each insides found → list_all is_allowed (map (λ s. s.form) found) ≡ true
-each-allowed Each.none = refl
-each-allowed (Each.further {insides = insides} {found = found} before i x selects) =
-    ap (list_all is_allowed) (map-append (λ (s : PlacedForm). s.form) found (placed_form x i.symbols ∷ []))
-    ∙ (list_all-append is_allowed (map (λ (s : PlacedForm). s.form) found) (x ∷ [])
-    ∙ and_from (list_all is_allowed (map (λ (s : PlacedForm). s.form) found)) (list_all is_allowed (x ∷ [])) (each-allowed before)
-    (ap (λ b. b && true) (selects_allowed i.symbols None x selects)))
+each-accepted : {insides : List Inside} {found : List PlacedForm} → Each insides found → list_all is_accepted (map (λ s. s.form) found) ≡ true
+each-accepted Each.none = refl
+each-accepted (Each.further {insides = insides} {found = found} before i x selects) =
+    ap (list_all is_accepted) (map-append (λ (s : PlacedForm). s.form) found (placed_form x i.symbols ∷ []))
+    ∙ (list_all-append is_accepted (map (λ (s : PlacedForm). s.form) found) (x ∷ [])
+    ∙ and_from (list_all is_accepted (map (λ (s : PlacedForm). s.form) found)) (list_all is_accepted (x ∷ [])) (each-accepted before)
+    (ap (λ b. b && true) (selects_accepted i.symbols None x selects)))
 
--- the selections of a path that is read have no `ftnot` and no `occurs` where none may stand
-pub read-is-allowed : (text : List ℕ) (value : PathForm) → path_read text ≡ Ok value → list_all is_allowed (selections_of value) ≡ true
-read-is-allowed text value read = each-allowed (spelled text value read).selections
+-- the selections of a path that is read have each `ftnot` and `occurs` where it may stand
+pub read-is-accepted : (text : List ℕ) (value : PathForm) → path_read text ≡ Ok value → list_all is_accepted (selections_of value) ≡ true
+read-is-accepted text value read = each-accepted (spelled text value read).selections

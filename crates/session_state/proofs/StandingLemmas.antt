@@ -1,6 +1,6 @@
 -- What a path with its plans answers in documents, and what watches keep of it when a command changes the documents or the lists.
-use Rattle.std.proofs.Common.{◌≡◌, ◌∙◌, sym, ap, ap₂, refl, subst, ℕ, suc, ◌+◌, ◌≤◌, ◌<◌, Bool, true, false, cond, List, [], ◌∷◌, ◌++◌, length, map, arith}
-use Rattle.std.specs.Prelude.{Option, Some, None, Result, Ok, Err, IfOk, OnOk, OnErr, nat_eq, nat_le, ⊤}
+use Rattle.std.proofs.Common.{◌≡◌, ◌∙◌, sym, ap, refl, subst, ℕ, suc, ◌≤◌, ◌<◌, Bool, true, false, cond, List, [], ◌∷◌, ◌++◌, length, map, arith}
+use Rattle.std.specs.Prelude.{Option, Some, None, Result, Ok, Err, IfOk, OnOk, OnErr, nat_le, ⊤}
 use Rattle.std.specs.List.{flat_map, sum_by, AllByRecursion}
 use Rattle.std.specs.Str.{bytes_eq}
 use Rattle.std.proofs.lemmas.List.{length-map}
@@ -13,7 +13,6 @@ use Rattle.collections.specs.declared.fault.NotRemoved.TheVariants as unremoved
 use Rattle.indexmap.specs.IndexMap.{insert_entry}
 use Rattle.ft_base.specs.Limits.{max_documents}
 use Rattle.ft_base.specs.declared.memory.Memory.{Memory}
-use Rattle.ft_base.specs.declared.fault.QueryFault.{QueryFault}
 use Rattle.kept_plans.specs.Kept.{all_used}
 use Rattle.kept_plans.specs.Preparation.{Preparation, with_kept, with_new_lists}
 use Rattle.path_grammar.specs.declared.path.PathRoot.{PathRoot}
@@ -29,15 +28,14 @@ use Rattle.plan_compiler.specs.NamedLists.{NamedLists}
 use Rattle.plan_runs.specs.Judgement.{Judgement}
 use Rattle.stamped_documents.specs.Stamped.{StampedDocuments}
 use Rattle.stamped_documents.specs.Stamps.{renewed, restamped, without_stamp, AreStamps}
-use Rattle.standing_queries.specs.Answers.{all_lines, Answers}
+use Rattle.standing_queries.specs.Answers.{Answers}
 use Rattle.command_replies.specs.Replies.{is_refusal}
 use Rattle.command_replies.specs.declared.reply.Refusal.{Refusal}
 use Rattle.command_replies.specs.declared.reply.Reply.{Reply}
-use Rattle.command_replies.specs.declared.reply.Reply.TheVariants.{Done, Refused}
 use Rattle.session_state.specs.declared.planned.PlannedPath.{PlannedPath}
 use Rattle.session_state.specs.declared.shown.Shown.TheVariants.{Names}
 use Rattle.session_state.specs.declared.watches.KeptWatch.{KeptWatch}
-use Rattle.session_state.specs.DocumentReplies.{edit_refusal, load_refusal, removal_refusal, replied_by}
+use Rattle.session_state.specs.DocumentReplies.{edit_refusal, replied_by}
 use Rattle.session_state.specs.Edits.{edit_placed, leads_through, places_selected}
 use Rattle.session_state.specs.Held.{Held}
 use Rattle.session_state.specs.KeptTexts.{kept_after, kept_by}
@@ -153,22 +151,8 @@ edit-accepted edit places None before after reply accepted h = by (limit_of (cha
 
 -- ---- what watches keep
 
--- documents with these stamps
-abbrev pub at_documents : StampedDocuments → List Named → List (List ℕ) → List ℕ → ℕ → StampedDocuments
-at_documents stamped documents abbreviations stamps next =
-    record { indexed = record { documents = documents; abbreviations = abbreviations; trees = stamped.indexed.trees; version = stamped.indexed.version }; stamps = stamps; next = next }
-
--- watches are asked by documents, abbreviations and stamps alone
+-- a watch stays current
 module _ (says : Judgement) (lists : NamedLists) where
-  pub current-when : (a b : StampedDocuments) → a.indexed.documents ≡ b.indexed.documents → a.indexed.abbreviations ≡ b.indexed.abbreviations → a.stamps ≡ b.stamps → a.next ≡ b.next
-      → (w : KeptWatch) → IsCurrent says a lists w → IsCurrent says b lists w
-  current-when a b documents abbreviations stamps next w is = record {
-    known = subst (λ ks. AreKnown w.standing (lines_read says ks lists (path_read w.path)) b.stamps b.indexed.documents) abbreviations
-        (subst (λ ss. AreKnown w.standing (lines_read says a.indexed.abbreviations lists (path_read w.path)) ss b.indexed.documents) stamps
-        (subst (λ ds. AreKnown w.standing (lines_read says a.indexed.abbreviations lists (path_read w.path)) a.stamps ds) documents is.known));
-    below = subst (λ n. AllByRecursion (λ a. a.0 < n) w.standing) next is.below;
-  }
-
   -- a document was loaded
   pub current-loaded : (old new : StampedDocuments) (name : List ℕ) → IsLoaded name old.indexed.documents new.indexed.documents → new.indexed.abbreviations ≡ old.indexed.abbreviations
       → new.stamps ≡ old.stamps ++ old.next ∷ [] → old.next ≤ new.next → length old.stamps ≡ length old.indexed.documents

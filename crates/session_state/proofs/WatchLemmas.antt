@@ -1,6 +1,6 @@
 -- When a watch is set, asked again or given up, what is found under its name, and what it keeps.
 use Rattle.std.proofs.Common.{◌≡◌, ◌∙◌, sym, ap, refl, subst, ℕ, Bool, true, false, cond, ◌||◌, List, [], ◌∷◌, ◌++◌, length}
-use Rattle.std.specs.Prelude.{Option, Some, None, is_some, nat_le, Result, Ok, Err, IfOk, OnOk}
+use Rattle.std.specs.Prelude.{Some, None, is_some, nat_le}
 use Rattle.std.specs.List.{AllByRecursion}
 use Rattle.std.specs.Map.{lookup, remove_entry}
 use Rattle.std.specs.Str.{bytes_eq}
@@ -8,13 +8,11 @@ use Rattle.std.proofs.lemmas.List.{length-map}
 use Rattle.indexmap.specs.IndexMap.{insert_entry}
 use Rattle.command_replies.specs.Limits.{max_watches}
 use Rattle.command_replies.specs.declared.reply.FullOf.TheVariants as full
-use Rattle.command_replies.specs.declared.reply.Refusal.{Refusal}
 use Rattle.command_replies.specs.declared.reply.Refusal.TheVariants as refusal
-use Rattle.command_replies.specs.declared.reply.Reply.{Reply}
 use Rattle.command_replies.specs.declared.reply.Reply.TheVariants.{Done, Refused}
-use Rattle.standing_queries.specs.Answers.{all_lines, Answers}
+use Rattle.standing_queries.specs.Answers.{all_lines}
 use Rattle.session_state.specs.declared.watches.KeptWatch.{KeptWatch}
-use Rattle.session_state.specs.KeptWatches.{kept_watch, standings_of, to_watch, watches_of}
+use Rattle.session_state.specs.KeptWatches.{standings_of, to_watch, watches_of}
 use Rattle.session_state.specs.Standings.{standing_of, with_standing, without_standing}
 use Rattle.session_state.specs.State.{Watch}
 use Rattle.session_state.specs.Watches.{has_watch, watch_named, watch_refusal, watch_taken, with_lines, without_watch}

@@ -1,11 +1,10 @@
 -- What the commands of watches leave and reply, once their path is read and all that it names is there, or is refused.
-use Rattle.std.proofs.Common.{◌≡◌, ◌∙◌, sym, ap, refl, subst, ℕ, true, false, List, [], ◌∷◌, ◌++◌, length, map}
-use Rattle.std.specs.Prelude.{Option, Some, None, Result, Ok, Err, IfOk, OnOk}
+use Rattle.std.proofs.Common.{◌≡◌, ◌∙◌, sym, ap, refl, subst, ℕ, false, List, [], ◌∷◌, ◌++◌, length}
+use Rattle.std.specs.Prelude.{Some, None, Result, Ok, Err, IfOk, OnOk}
 use Rattle.std.specs.List.{flat_map}
 use Rattle.std.specs.Map.{lookup}
 use Rattle.std.specs.Str.{bytes_eq}
 use Rattle.std.proofs.lemmas.List.{map_push}
-use Rattle.std.proofs.lemmas.Option.{same_Some}
 use Rattle.indexmap.specs.IndexMap.{insert_entry}
 use Rattle.ft_base.specs.declared.fault.QueryFault.{QueryFault}
 use Rattle.ft_base.specs.declared.memory.Memory.{Memory}
@@ -18,7 +17,6 @@ use Rattle.plan_compiler.specs.NamedLists.{NamedLists}
 use Rattle.plan_runs.specs.Judgement.{Judgement}
 use Rattle.stamped_documents.specs.Stamped.{StampedDocuments}
 use Rattle.stamped_documents.specs.Stamps.{AreStamps}
-use Rattle.command_replies.specs.Replies.{is_refusal}
 use Rattle.command_replies.specs.declared.reply.Refusal.{Refusal}
 use Rattle.command_replies.specs.declared.reply.Refusal.TheVariants as refusal
 use Rattle.command_replies.specs.declared.reply.Reply.{Reply}
@@ -37,7 +35,7 @@ use Rattle.session_state.specs.PathPrices.{is_cheap_path, is_cheap_watch, price_
 use Rattle.session_state.specs.Paths.{answer, answer_read, lines_for, unless_refused}
 use Rattle.session_state.specs.ReadyPaths.{path_refusal}
 use Rattle.session_state.specs.Standings.{answers_now, answers_to, lines_read, standing_of, standings_changed, with_standing, IsCurrent}
-use Rattle.session_state.specs.State.{State, Watch}
+use Rattle.session_state.specs.State.{State}
 use Rattle.session_state.specs.StateView.{prepared_of}
 use Rattle.session_state.specs.Watches.{change_answered, change_found, changed, has_watch, watch_answered, watch_named, watch_refusal, watch_set, watched, with_lines, with_watches}
 use Rattle.session_state.specs.steps.Again.{held_with, watch_again, AreAnswers, IsAgain}
@@ -66,9 +64,6 @@ answer-now says held path many found =
 
 module _ (says : Judgement) (held : Held) (old : KeptWatch) (found : path_refusal held.state.documents held.state.lists (path_read old.path) ≡ None) (lines : Named → List (List ℕ))
     (same : lines ≡ lines_read says held.state.abbreviations held.state.lists (path_read old.path)) where
-  now : Answers
-  now = answers_now lines held.stamps held.state.documents
-
   pub again-answers : (result : Result Again Memory)
       → IfOk result (λ a. a ≡ again.Answers (kept_watch old.path (answers_now lines held.stamps held.state.documents)) (changes (all_lines old.standing) (all_lines (answers_now lines held.stamps held.state.documents))))
       → IfOk result (IsAgain says held old)

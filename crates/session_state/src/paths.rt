@@ -3,7 +3,7 @@
 ghost use Rattle.std.specs.Prelude.{◌≡◌, ◌≢◌, ◌≤◌, ◌+◌, ◌^◌, ◌<◌, IfErr, IfOk, IsTrue, None, Ok, OnErr, OnOk, flat_map, length, map, true};
 ghost use Rattle.std.specs.List.{list_all};
 ghost use Rattle.std.specs.Option.{option_copied};
-ghost use Rattle.all_matches.specs.Allowed.{is_allowed};
+ghost use Rattle.counted_shapes.specs.Accepted.{is_accepted};
 ghost use Rattle.collections.specs.Loaded.{to_document};
 ghost use Rattle.kept_plans.specs.Preparation.{CanKeep};
 ghost use Rattle.kept_plans.specs.steps.Next.{IsNext};
@@ -159,7 +159,7 @@ fn plans_of(
     text: &[u8],
     path: &ReadPath,
 ) -> Result<Vec<KeptPlan>, PlanFault>
-    requires { IsTrue (list_all is_allowed (paths.selections_of (read_form path.now))) }
+    requires { IsTrue (list_all is_accepted (paths.selections_of (read_form path.now))) }
     ensures plans { IfOk result (λ plans. plans.items ≡ plans_under prepared.now.lists text.now (read_form path.now)) }
     ensures document { IfOk result (λ _. paths.missing_document (read_form path.now).path.root collection.now.documents ≡ None) }
     ensures lists { IfOk result (λ _. paths.missing_list prepared.now.lists (paths.selections_of (read_form path.now)) ≡ None) }

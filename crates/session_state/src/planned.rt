@@ -2,7 +2,7 @@
 
 ghost use Rattle.std.specs.Prelude.{◌≡◌, ◌++◌, ◌∷◌, [], IfErr, IfOk, IsTrue, None, OnOk, map};
 ghost use Rattle.std.specs.List.{list_all};
-ghost use Rattle.all_matches.specs.Allowed.{is_allowed};
+ghost use Rattle.counted_shapes.specs.Accepted.{is_accepted};
 ghost use Rattle.path_subset.specs.Paths.{read_form};
 ghost use Rattle.plan_compiler.specs.Missing.{IsMissing};
 ghost use Rattle.session_state.specs.KeptTexts as texts;
@@ -35,7 +35,7 @@ pub(crate) fn plan_selections(
     prepared: &Prepared,
     text: &[u8],
 ) -> Result<Vec<KeptPlan>, CompileFault>
-    requires { IsTrue (list_all is_allowed (selections_of (read_form path.now))) }
+    requires { IsTrue (list_all is_accepted (selections_of (read_form path.now))) }
     ensures plans { IfOk result (λ plans. plans.items ≡ plans_under prepared.now.lists text.now (read_form path.now)) }
     ensures there { IfOk result (λ _. missing_list prepared.now.lists (selections_of (read_form path.now)) ≡ None) }
     ensures missing { IfErr result (λ fault. IsMissing fault (missing_list prepared.now.lists (selections_of (read_form path.now)))) }

@@ -8,7 +8,6 @@ ghost use Rattle.session_state.specs.KeptWatches.{kept_watch};
 ghost use Rattle.session_state.specs.PathPrices.{is_cheap_path, is_cheap_watch, price_of_changes, price_of_unknown, read_price};
 ghost use Rattle.session_state.specs.PlannedPaths.{prices_in, run_over, HasItsPlans, has_cheap_plans};
 ghost use Rattle.session_state.specs.Standings.{answers_now, answers_to, lines_read, standings_changed, unknown_price, without_standing, AreKnown};
-ghost use Rattle.session_state.specs.StateView.{held_of};
 ghost use Rattle.session_state.specs.Watches.{changed, unwatched, watch_named, watch_refusal, watched};
 ghost use Rattle.session_state.specs.steps.Again.{IsAgain, held_with};
 ghost use Rattle.session_state.specs.steps.Chosen.{price_through};

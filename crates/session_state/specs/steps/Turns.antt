@@ -1,9 +1,8 @@
 -- What is told of the documents to a watch, by a path with its plans.
-use Rattle.std.specs.Prelude.{◌≡◌, ℕ, if◌then◌else◌, List, [], ◌∷◌, Option, Some, None, is_some}
+use Rattle.std.specs.Prelude.{ℕ, if◌then◌else◌, List, [], ◌∷◌, Some, None, is_some}
 use Rattle.path_meaning.specs.Collection.{Named}
 use Rattle.plan_runs.specs.Judgement.{Judgement}
-use Rattle.standing_queries.specs.Answers.{all_lines, kept_under, Answers}
-use Rattle.standing_queries.specs.Changes.{changes}
+use Rattle.standing_queries.specs.Answers.{kept_under, Answers}
 use Rattle.standing_queries.specs.declared.turn.Turn.{Turn}
 use Rattle.session_state.specs.declared.planned.PlannedPath.{PlannedPath}
 use Rattle.session_state.specs.declared.shown.Shown.TheVariants.{Names}

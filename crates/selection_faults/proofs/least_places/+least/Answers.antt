@@ -1,6 +1,8 @@
 -- Each kind of selection has the least places that its parts give; in the list one more part was passed.
 use Rattle.std.proofs.Common.{map, take, sym, ap, ◌∙◌, arith}
 use Rattle.selection_grammar.proofs.Views.{tree_words, tree_or, tree_and, tree_mild, tree_not, tree_filtered, tree_with}
+use Rattle.counted_shapes.specs.Accepted.{is_counted}
+use Rattle.selection_grammar.specs.Form.{form_of}
 use Rattle.selection_grammar.specs.View.{tree}
 use Rattle.selection_faults.specs.LeastPlaces.{least_places, least_places_of, both, of_mild_not, of_not, of_filtered, of_with}
 use Rattle.selection_faults.proofs.LeastPlacesLemmas.{least_words, least_or, least_and, least_mild_not, least_not, least_filtered, least_with, least_next}
@@ -39,9 +41,10 @@ least_places-returns-in-Not t c =
 pub least_places-returns-in-Filtered : goal.least_places-returns-in-Filtered
 least_places-returns-in-Filtered t c =
     let operand = c.in-Filtered.operand in
-    let filter = c.in-Filtered.field-1 in
+    let filter = c.in-Filtered.filter in
     c.filtered.ensures
-    ∙ ap of_filtered (c.least_places-in-Filtered.ensures ∙ ap (λ x. least_places (tree x)) c.deref-in-Filtered.ensures)
+    ∙ ap (λ counted. of_filtered counted c.least_places-in-Filtered.result) (c.is_counted.ensures ∙ ap (λ x. is_counted (form_of (tree x)) filter) c.deref-in-Filtered.ensures)
+    ∙ ap (of_filtered (is_counted (form_of (tree operand.value)) filter)) (c.least_places-in-Filtered.ensures ∙ ap (λ x. least_places (tree x)) c.deref-in-Filtered-2.ensures)
     ∙ least_filtered (tree operand.value) filter
     ∙ ap least_places (sym (tree_filtered operand filter) ∙ ap tree (sym c.in-Filtered.is))
 

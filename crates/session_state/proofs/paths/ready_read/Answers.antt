@@ -6,11 +6,11 @@ use Rattle.path_subset.specs.Paths.{read_form, PathForm}
 use Rattle.session_state.specs.Paths.{missing_document, missing_list, selections_of}
 use Rattle.session_state.specs.PlannedPaths.{plans_under, AskBelow}
 use Rattle.session_state.proofs.PathLemmas.{as-many-under, can-keep-under}
-use Rattle.session_state.proofs.SelectionNumbers.{read-asks-below, read-is-allowed}
+use Rattle.session_state.proofs.SelectionNumbers.{read-asks-below, read-is-accepted}
 use Rattle.session_state.proofs.paths.ready_read.Goals as goal
 
 pub plans_of-requires : goal.plans_of-requires
-plans_of-requires c = read-is-allowed c.args.text.now (read_form c.args.path) c.requires
+plans_of-requires c = read-is-accepted c.args.text.now (read_form c.args.path) c.requires
 
 pub ready_with-requires : goal.ready_with-requires
 ready_with-requires c =

@@ -1,6 +1,6 @@
 -- The path is asked by its plans, or refused.
 use Rattle.std.proofs.Common.{◌≡◌, ◌∙◌, ◌≤◌, ◌+◌, sym, ap, subst, ℕ, List, length, map}
-use Rattle.std.specs.Prelude.{None, IfOk}
+use Rattle.std.specs.Prelude.{None}
 use Rattle.collections.specs.Indexed.{Indexed}
 use Rattle.path_grammar.specs.Form.{steps}
 use Rattle.path_grammar.specs.View.{step}
@@ -10,9 +10,9 @@ use Rattle.path_subset.specs.Paths.{read_form}
 use Rattle.session_state.specs.PathPrices.{are_cheap, is_cheap_path, price_of_unknown}
 use Rattle.session_state.specs.PlannedPaths.{AskBelow}
 use Rattle.session_state.specs.ReadyPaths.{path_refusal, IsReady, IsReadyPath}
-use Rattle.session_state.specs.Standings.{lines_read, unknown_price, AreKnown}
+use Rattle.session_state.specs.Standings.{unknown_price, AreKnown}
 use Rattle.session_state.specs.StateView.{state_of}
-use Rattle.session_state.specs.steps.Again.{held_with, IsAgain}
+use Rattle.session_state.specs.steps.Again.{held_with}
 use Rattle.session_state.specs.steps.Turns.{planned_through}
 use Rattle.session_state.proofs.PathLemmas.{all-found, ready-plan}
 use Rattle.session_state.proofs.StandingLemmas.{planned-price, planned-through, read-lines}

@@ -1,12 +1,10 @@
 -- Nothing is known, so that each document brings its lines, and all are asked.
-use Rattle.std.proofs.Common.{◌≡◌, ◌∙◌, ◌≤◌, ◌+◌, ℕ, sym, ap, subst, List, [], length, map}
+use Rattle.std.proofs.Common.{◌≡◌, ◌∙◌, ◌≤◌, ◌+◌, ℕ, sym, ap, subst, List, [], map}
 use Rattle.std.specs.Prelude.{nat_eq, IfOk}
-use Rattle.std.specs.List.{sum_by, IsDistinct}
-use Rattle.path_meaning.specs.Collection.{Named, documents}
+use Rattle.std.specs.List.{IsDistinct}
 use Rattle.standing_queries.specs.Answers.{answers_of, stamps_of, Answers}
-use Rattle.standing_queries.specs.declared.turn.Turn.{Turn}
-use Rattle.session_state.specs.PlannedPaths.{prices_in, run_over}
-use Rattle.session_state.specs.Standings.{answers_now, unknown_price}
+use Rattle.session_state.specs.PlannedPaths.{run_over}
+use Rattle.session_state.specs.Standings.{unknown_price}
 use Rattle.session_state.specs.steps.Chosen.{price_through}
 use Rattle.session_state.specs.steps.Turns.{planned_through, turns_now}
 use Rattle.session_state.proofs.ChosenLemmas.{prices-led}

@@ -4,7 +4,6 @@ use Rattle.std.specs.Prelude.{nat_eq, IfOk}
 use Rattle.std.specs.List.{IsDistinct}
 use Rattle.standing_queries.specs.Answers.{all_lines, answers_of, stamps_of, Answers}
 use Rattle.standing_queries.specs.Changes.{changes}
-use Rattle.session_state.specs.Standings.{answers_now}
 use Rattle.session_state.specs.steps.Turns.{planned_through, turns_now}
 use Rattle.session_state.proofs.KnownLemmas.{turn-answers, turn-stamps}
 use Rattle.session_state.proofs.watching.next_answers.Goals as goal

@@ -1,16 +1,15 @@
 -- The watch that is found is asked again and keeps what it answers now, or its path is refused; or there is none.
-use Rattle.std.proofs.Common.{◌≡◌, ◌∙◌, ◌≤◌, ◌+◌, refl, sym, ap, subst, ℕ, List, false}
+use Rattle.std.proofs.Common.{◌≡◌, ◌∙◌, ◌≤◌, ◌+◌, refl, sym, ap, subst, ℕ}
 use Rattle.std.specs.Prelude.{IfOk, Some, None}
 use Rattle.std.specs.Map.{lookup}
 use Rattle.std.specs.Option.{option_copied}
 use Rattle.std.specs.Str.{bytes_eq}
 use Rattle.path_subset.specs.Answer.{path_read}
-use Rattle.command_replies.specs.Replies.{is_refusal}
 use Rattle.command_replies.specs.declared.reply.Reply.TheVariants.{Refused}
 use Rattle.session_state.specs.Held.{Held}
 use Rattle.session_state.specs.KeptWatches.{standings_of, watches_of}
 use Rattle.session_state.specs.PathPrices.{is_cheap_watch, price_of_changes}
-use Rattle.session_state.specs.Standings.{standings_changed, AreCurrent, IsCurrent}
+use Rattle.session_state.specs.Standings.{standings_changed, IsCurrent}
 use Rattle.session_state.specs.Watches.{changed, watch_named, with_watches}
 use Rattle.session_state.specs.steps.Again.{held_with, AreAnswers, IsAgain}
 use Rattle.session_state.proofs.EditLemmas.{replied}

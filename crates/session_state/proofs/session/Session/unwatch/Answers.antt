@@ -1,11 +1,8 @@
 -- The other watches keep what they know.
-use Rattle.std.proofs.Common.{◌≡◌, ◌∙◌, sym, ap, subst, List}
-use Rattle.std.specs.Map.{remove_entry}
-use Rattle.std.specs.Str.{bytes_eq}
+use Rattle.std.proofs.Common.{◌∙◌, sym, ap, subst, List}
 use Rattle.session_state.specs.Held.{Held}
 use Rattle.session_state.specs.KeptWatches.{standings_of}
 use Rattle.session_state.specs.Standings.{without_standing, AreCurrent, IsCurrent}
-use Rattle.session_state.proofs.StateLemmas.{held_as}
 use Rattle.session_state.proofs.StandingLemmas.{accepted-so}
 use Rattle.session_state.proofs.WatchLemmas.{each-less, standings-removed, Entry}
 use Rattle.session_state.proofs.session.Session.unwatch.Goals as goal

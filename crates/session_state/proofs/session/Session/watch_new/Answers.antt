@@ -1,35 +1,29 @@
 -- The watch is set, and its path's plans are kept.
-use Rattle.std.proofs.Common.{◌≡◌, ◌∙◌, ◌≤◌, ◌+◌, refl, sym, ap, subst, ℕ, List, [], ◌∷◌, ◌++◌, false, length}
-use Rattle.std.specs.Prelude.{None, Result, IfOk, OnOk, OnErr}
+use Rattle.std.proofs.Common.{◌≡◌, ◌∙◌, ◌≤◌, ◌+◌, refl, sym, ap, subst, ℕ, List, [], ◌∷◌, ◌++◌, false}
+use Rattle.std.specs.Prelude.{None, Result, IfOk, OnOk}
 use Rattle.std.specs.Str.{bytes_eq}
 use Rattle.indexmap.specs.IndexMap.{insert_entry}
 use Rattle.collections.specs.Indexed.{Indexed}
 use Rattle.ft_base.specs.declared.memory.Memory.{Memory}
 use Rattle.kept_plans.specs.Kept.{all_used}
-use Rattle.kept_plans.specs.Preparation.{texts_of, Preparation}
+use Rattle.kept_plans.specs.Preparation.{texts_of}
 use Rattle.plan_compiler.specs.NamedLists.{NamedLists}
-use Rattle.path_grammar.specs.Form.{steps}
-use Rattle.path_grammar.specs.View.{step}
 use Rattle.path_meaning.specs.Collection.{Named}
 use Rattle.path_subset.specs.Answer.{path_read}
 use Rattle.path_subset.specs.Paths.{read_form}
 use Rattle.command_replies.specs.Replies.{is_refusal}
 use Rattle.command_replies.specs.declared.reply.Reply.{Reply}
-use Rattle.command_replies.specs.declared.reply.Reply.TheVariants.{Done}
 use Rattle.session_state.specs.Held.{Held}
 use Rattle.session_state.specs.KeptTexts.{kept_after}
 use Rattle.session_state.specs.KeptWatches.{kept_watch, standings_of, watches_of}
 use Rattle.session_state.specs.PathPrices.{are_cheap, is_cheap_path, read_price}
-use Rattle.session_state.specs.PlannedPaths.{AskBelow}
 use Rattle.session_state.specs.ReadyPaths.{path_refusal, IsReady, IsReadyPath}
-use Rattle.session_state.specs.Standings.{answers_now, answers_to, AreCurrent, IsCurrent}
-use Rattle.session_state.specs.StateView.{prepared_of}
+use Rattle.session_state.specs.Standings.{answers_now, answers_to, AreCurrent}
 use Rattle.session_state.specs.Watches.{watch_refusal, watched, with_watches}
 use Rattle.session_state.proofs.EditLemmas.{replied, with_prepared_in}
 use Rattle.session_state.proofs.PathLemmas.{all-found, planned-prices, ready-plan, texts-under}
 use Rattle.session_state.proofs.StandingLemmas.{accepted-when, kept-by-lists, now-current, planned-through, read-lines, set-current}
 use Rattle.session_state.proofs.StateLemmas.{held_as}
-use Rattle.session_state.proofs.WatchLemmas.{each-put, Entry}
 use Rattle.session_state.proofs.WatchingLemmas.{put-standings, watch-replied}
 use Rattle.session_state.proofs.session.Session.watch_new.Goals as goal
 

@@ -1,7 +1,7 @@
 -- A watch that is there is found, and is gone then.
 use Rattle.std.proofs.Common.{◌≡◌, ◌∙◌, sym, ap, true, false, List}
 use Rattle.std.specs.Prelude.{is_some, None}
-use Rattle.std.specs.Map.{lookup, remove_entry}
+use Rattle.std.specs.Map.{lookup}
 use Rattle.std.specs.Str.{bytes_eq}
 use Rattle.command_replies.specs.declared.reply.Reply.TheVariants.{Done, Refused}
 use Rattle.command_replies.specs.declared.reply.Refusal.TheVariants.{NoSuchName}
