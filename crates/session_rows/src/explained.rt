@@ -9,7 +9,7 @@ use std::test::Fail;
 /// A text, and the reply to it as a selection that is to be explained.
 type ExplainedRow = (&'static str, &'static str);
 
-const EXPLAINED: [ExplainedRow; 20] = [
+const EXPLAINED: [ExplainedRow; 22] = [
     (r#"'a'"#, "= \"a\"\n"),
     (
         r#"ftnot ("a" ftor ftnot "b")"#,
@@ -59,6 +59,15 @@ const EXPLAINED: [ExplainedRow; 20] = [
     (
         r#"ftnot ("a" ftand ftnot "b" window 3 words)"#,
         "= ftnot (\"a\" ftand ftnot \"b\" window 3 words)\n",
+    ),
+    // what is counted in a window stays so
+    (
+        r#"(("a" occurs exactly 2 times ftand ("b" ftand "b")) using stemming) window 9 words"#,
+        "= \"a\" occurs exactly 2 times using stemming ftand \"b\" using stemming ftand \"b\" using stemming window 9 words\n",
+    ),
+    (
+        r#"ftnot ("a" occurs at least 1 times ftand "b" occurs at most 2 times same sentence)"#,
+        "= ftnot (\"a\" occurs at least 1 times ftand \"b\" occurs at most 2 times same sentence)\n",
     ),
     // no list is looked at
     (

@@ -14,6 +14,8 @@ mod commands;
 #[cfg(test)]
 mod compared_words;
 #[cfg(test)]
+mod counted;
+#[cfg(test)]
 mod counts;
 #[cfg(test)]
 mod cut_sessions;

@@ -26,7 +26,7 @@ type RepeatedRow = (
 const SELECTION_PLACE: usize = 32;
 
 // Texts whose faults are the same in a path.
-const FAULTS: [FaultRow; 40] = [
+const FAULTS: [FaultRow; 46] = [
     // the first symbol that can't stand
     ("", "syntax", 0),
     ("foo", "syntax", 0),
@@ -79,6 +79,37 @@ const FAULTS: [FaultRow; 40] = [
     ),
     (r#"(ftnot (ftnot "a")) window 3 words"#, "inside filter", 8),
     (r#""a" occurs at least 2 times at end"#, "inside filter", 4),
+    // what is counted in one window, sentence or paragraph asks for a hit, and has no other filter, choice or `all`
+    (
+        r#""a" occurs at most 0 times window 2 words"#,
+        "inside filter",
+        4,
+    ),
+    (
+        r#""a" occurs exactly 2 times window 3 words ordered"#,
+        "inside filter",
+        4,
+    ),
+    (
+        r#"("a" ftor "b" occurs exactly 2 times) same sentence"#,
+        "inside filter",
+        14,
+    ),
+    (
+        r#"{"a"} all occurs exactly 2 times same sentence"#,
+        "inside filter",
+        10,
+    ),
+    (
+        r#""a" ftand ftnot ("b" occurs exactly 2 times) same sentence"#,
+        "inside filter",
+        21,
+    ),
+    (
+        r#""c" not in ("a" occurs exactly 2 times same sentence)"#,
+        "mild not exclude",
+        16,
+    ),
 ];
 
 // Texts whose symbols a path goes on with.
