@@ -22,12 +22,12 @@ def test_there_are_thirty_and_more() -> None:
     assert len({it.wrong for it in MISTAKES}) == len(MISTAKES)
 
 
-def advised(path: str, session: Session) -> Advice | None:
-    """What is advised for a path that the program refuses."""
+def advised(path: str, session: Session, kind: str = "syntax") -> Advice | None:
+    """What is advised for a path that the program refuses for a fault of that kind."""
     with pytest.raises((QueryFault, BadCommand)) as caught:
         session.query(path)
     fault = caught.value
-    assert isinstance(fault, QueryFault) and fault.kind == "syntax", fault
+    assert isinstance(fault, QueryFault) and fault.kind == kind, fault
     return advice_for(path, (fault.kind, fault.column(path)), Collection(session).fault_of)
 
 
@@ -63,6 +63,40 @@ def test_several_mistakes_are_repaired_together(path: str, write: str, session: 
     advice = advised(path, session)
     assert advice is not None and advice.write == write
     assert session.query(write) == []
+
+
+@pytest.mark.parametrize(
+    ("selection", "write"),
+    [
+        ('"a" occurs exactly 2 times window 3 words ordered', '"a" occurs exactly 2 times window 3 words'),
+        ('"a" occurs exactly 2 times ordered same sentence', '"a" occurs exactly 2 times same sentence'),
+        ('"a" occurs exactly 2 times ftand "b" distance at most 3 words', '"a" occurs exactly 2 times ftand "b" window 5 words'),
+        (
+            '"x" ftand ("a" occurs at least 2 times ftand "b" distance from 1 to 4 sentences) ordered',
+            '"x" ftand ("a" occurs at least 2 times ftand "b" window 6 sentences)',
+        ),
+        ('"b" ftand ftnot "a" occurs at least 2 times window 5 words', '"b" ftand "a" occurs at most 1 times window 5 words'),
+        ('"b" ftand ftnot ("a" any occurs at most 0 times) same paragraph', '"b" ftand "a" any occurs at least 1 times same paragraph'),
+        ('"a" occurs at most 0 times window 2 words', '"a" occurs at most 0 times'),
+        ('"a" occurs at least 2 times using stemming at start', '"a" occurs at least 2 times using stemming'),
+        ('{"a", "window 3 words"} all occurs at least 2 times window 3 words', '{"a", "window 3 words"} all occurs at least 2 times'),
+        ('("a" occurs exactly 2 times ftor "b") ftand ("c" window 2 words) same sentence', '("a" occurs exactly 2 times ftor "b") ftand ("c" window 2 words)'),
+        ('(ftnot (ftnot "a")) window 3 words', '(ftnot (ftnot "a"))'),
+    ],
+)
+def test_a_count_under_a_filter_is_written_as_it_may_stand(selection: str, write: str, session: Session) -> None:
+    front, back = 'collection()//p[. contains text "b" same sentence and not(. contains text ', ") and . contains text 'occurs' window 2 words]"
+    advice = advised(f"{front}{selection}{back}", session, "inside filter")
+    assert advice is not None and advice.write == f"{front}{write}{back}"
+    assert session.query(advice.write) == []
+    fault_of = Collection(session).fault_of_selection
+    fault = fault_of(selection)
+    assert fault and advice_for(selection, fault, fault_of) == Advice(advice.why, write)
+
+
+def test_what_counts_words_under_filters_is_read(session: Session) -> None:
+    for selection in ('"a" occurs at least 2 times window 3 words', '{"a", "b"} occurs exactly 2 times ftand ("c" ftand ftnot "d") same sentence'):
+        assert session.query(f"collection()//p[. contains text {selection}]") == []
 
 
 @pytest.mark.parametrize("path", ["collection()//p[", 'collection()//p[. contains text "a" &', 'collection()//p[@n < "1"]', "collection()//p[)]]"])
@@ -164,6 +198,8 @@ def test_what_is_told_of_a_path() -> None:
         ("query  a/b", "a/b"),
         ("query\tat m  a b", "a b"),
         ("insert last  a", "a"),
+        ("watch w  a b", "a b"),
+        ('watch "w w" a', "a"),
         ("print a ", "a "),
         ("explain 'a'", "'a'"),
         ("query at m", ""),

@@ -38,7 +38,7 @@ OPTIONS = [
 ]
 BEHIND_A_STRING = ["ftand ", "ftor ", "ftand ftnot ", "using ", "occurs ", "any word", "all words", "all", "phrase"]
 TIMES = ["exactly ", "at least ", "at most ", "from "]
-BEHIND_TIMES = ["ftand ", "ftor ", "ftand ftnot ", "using "]
+BEHIND_TIMES = ["ftand ", "ftor ", "ftand ftnot ", "window ", "same sentence", "same paragraph", "using "]
 UNITS = ["words", "sentences", "paragraphs"]
 
 _NAME = r"[\w:.-]*"

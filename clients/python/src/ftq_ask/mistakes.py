@@ -6,9 +6,9 @@ import re
 from dataclasses import dataclass
 from typing import Callable, Iterator
 
-from .paths import missing_end
+from .filters import counted_otherwise
+from .paths import STRING, missing_end
 
-_STRING = r"(?:\"(?:[^\"]|\"\")*\"|'(?:[^']|'')*')"
 _NAME = r"[\w:][\w:.-]*"
 _OPTION = r"(?:case|diacritics)\s+(?:in)?sensitive|lowercase|uppercase|stemming|wildcards|stop\s+words|thesaurus"
 _KEYWORDS = "CONTAINS|TEXT|FTAND|FTOR|FTNOT|USING|OCCURS|TIMES|ANY|ALL|WORDS?|PHRASE|STEMMING|WILDCARDS|COLLECTION|DOC"
@@ -56,14 +56,14 @@ MISTAKES: list[Mistake] = [
     _mistake("a path begins at the documents", rf"^\s*(?=//?\s*(?:{_NAME}|\*))", "collection()", '//p[. contains text "storm"]'),
     _mistake(
         "a path has one step at least; /* leads to the roots",
-        rf"^\s*(collection\s*\(\s*\)|doc\s*\(\s*{_STRING}\s*\))\s*/*\s*$",
+        rf"^\s*(collection\s*\(\s*\)|doc\s*\(\s*{STRING}\s*\))\s*/*\s*$",
         r"\1/*",
         "collection()",
     ),
     _mistake("the parentheses belong to it", r"^\s*collection(?=\s*/)", "collection()", "collection//p"),
     _mistake(
         "there is one collection; a document is named with doc",
-        rf"^\s*collection\s*\(\s*({_STRING})\s*\)",
+        rf"^\s*collection\s*\(\s*({STRING})\s*\)",
         r"doc(\1)",
         'collection("moby")//p',
     ),
@@ -71,13 +71,13 @@ MISTAKES: list[Mistake] = [
     _mistake("the first line of an answer is its count", r"^\s*count\s*\(\s*(.*)\)\s*$", r"\1", "count(collection()//p)"),
     _mistake(
         "a question is one path, without variables and return",
-        rf"^\s*for\s+\$\w+\s+in\s+(.*?)\s+where\s+\$\w+(?:/[\w/]*)?\s+contains\s+text\s+({_STRING})\s+return\s+.*$",
+        rf"^\s*for\s+\$\w+\s+in\s+(.*?)\s+where\s+\$\w+(?:/[\w/]*)?\s+contains\s+text\s+({STRING})\s+return\s+.*$",
         r"\1[. contains text \2]",
         'for $p in collection()//p where $p contains text "storm" return $p',
     ),
     _mistake(
         "a question is one path: ask two",
-        rf"\s*[|,]\s*(?:collection\s*\(\s*\)|doc\s*\(\s*{_STRING}\s*\)|//?\s*[\w:*]).*$",
+        rf"\s*[|,]\s*(?:collection\s*\(\s*\)|doc\s*\(\s*{STRING}\s*\)|//?\s*[\w:*]).*$",
         "",
         "collection()//p | collection()//title",
     ),
@@ -90,7 +90,7 @@ MISTAKES: list[Mistake] = [
     _mistake("it is called contains text", r"\bftcontains\b", "contains text", 'collection()//p[. ftcontains "storm"]'),
     _mistake(
         "contains text stands between the element and the string",
-        rf"\bcontains\s*\(\s*(text\(\)|[^,()]+?)\s*,\s*({_STRING})\s*\)",
+        rf"\bcontains\s*\(\s*(text\(\)|[^,()]+?)\s*,\s*({STRING})\s*\)",
         _contains_call,
         'collection()//p[contains(., "storm")]',
     ),
@@ -127,7 +127,7 @@ MISTAKES: list[Mistake] = [
     ),
     _mistake(
         "the text of attributes isn't searched; their whole value can be asked for",
-        rf"@({_NAME})\s+contains\s+text\s+({_STRING})",
+        rf"@({_NAME})\s+contains\s+text\s+({STRING})",
         r"@\1 = \2",
         'collection()//book[@id contains text "b1"]',
     ),
@@ -135,20 +135,20 @@ MISTAKES: list[Mistake] = [
     _mistake("an attribute's value is a string", rf"@({_NAME})\s*=\s*([0-9]+)", r'@\1 = "\2"', "collection()//book[@id = 1]"),
     _mistake(
         "there is = alone; not( .. ) turns it",
-        rf"@({_NAME})\s*!=\s*({_STRING}|[0-9]+)",
+        rf"@({_NAME})\s*!=\s*({STRING}|[0-9]+)",
         r"not(@\1 = \2)",
         'collection()//book[@id != "b1"]',
     ),
     _mistake("it is written =", rf"@({_NAME})\s+eq\s+", r"@\1 = ", 'collection()//book[@id eq "b1"]'),
     _mistake(
         "attributes are compared by = alone",
-        rf"@({_NAME})\s*[<>]=?\s*(?:{_STRING}|[0-9]+)",
+        rf"@({_NAME})\s*[<>]=?\s*(?:{STRING}|[0-9]+)",
         None,
         'collection()//book[@year > "1900"]',
     ),
     _mistake(
         "an element's text is searched; only attributes are compared by =",
-        rf"(?<=\[)\s*({_NAME}|\.)\s*=\s*({_STRING})",
+        rf"(?<=\[)\s*({_NAME}|\.)\s*=\s*({STRING})",
         r"\1 contains text \2",
         'collection()//book[title = "Garden Notes"]',
     ),
@@ -197,8 +197,8 @@ MISTAKES: list[Mistake] = [
     ),
     _mistake(
         "the strings of one value are divided by commas",
-        rf"\{{\s*{_STRING}(?:[\s,;|]*{_STRING})+\s*\}}",
-        lambda told: "{" + ", ".join(re.findall(_STRING, told[0])) + "}",
+        rf"\{{\s*{STRING}(?:[\s,;|]*{STRING})+\s*\}}",
+        lambda told: "{" + ", ".join(re.findall(STRING, told[0])) + "}",
         'collection()//p[. contains text {"storm" "ship"} all]',
     ),
     _mistake(
@@ -296,7 +296,7 @@ MISTAKES: list[Mistake] = [
     _mistake("there are no comments in a path", r"\(:.*?:\)", "", "collection()//p(: paragraphs :)"),
     _mistake(
         "a question is a path; a string stands in brackets after contains text",
-        rf"^\s*({_STRING}(?:.*\S)?)\s*$",
+        rf"^\s*({STRING}(?:.*\S)?)\s*$",
         r"collection()//*[. contains text \1]",
         '"storm" ftand "ship"',
     ),
@@ -317,7 +317,7 @@ FAULTS = {
     "option twice": "this is the second option of its group here: keep one",
     "bad wildcard": "the pattern is badly formed: .{n,m} has two numbers, the smaller first; a backslash stands before what is no pattern",
     "mild not exclude": "ftnot and occurs have no place inside an operand of not in",
-    "inside filter": "ftnot inside another, and occurs, have no place inside a selection with a filter: put the filter on a part",
+    "inside filter": "under a filter stands no ftnot inside another, and occurs only where it is counted in one window, sentence or paragraph",
 }
 """What each fault of a query says, in a few words."""
 
@@ -356,7 +356,10 @@ def advice_for(path: str, fault: Fault, fault_of: Callable[[str], Fault | None])
 
 
 def _repairs(path: str, kind: str, column: int) -> Iterator[Advice]:
-    """What may be meant by a path with one fault: the usual mistakes that stand near it, or else those elsewhere, then what is open."""
+    """What may be meant by a path with one fault: the usual mistakes that stand near it, or else those elsewhere, then what is open; where a count
+    stands where it may not, what may."""
+    if kind == "inside filter":
+        yield from (Advice(why, written) for why, written in counted_otherwise(path, column))
     if kind != "syntax":
         return
     found = [(mistake, told) for mistake in MISTAKES for told in mistake.pattern.finditer(path)]
