@@ -104,7 +104,6 @@ module _ (lists : NamedLists) (options : Options) where
     price = λ looks terms text outer inner. let none_to_pay = ap (phrases_cost (compiled_price looks lists.stems terms text)) empty in omega (arith, none_to_pay);
   }
 
-
   -- ---- several
 
   pub items_with : (before after : List CountedWords) (operand : Form) (inner : Options) → ItemsCompileTo lists (inside inner options) before after operand

@@ -96,9 +96,7 @@ fn phrase_operator(
 ) -> Result<OperatorPlan, Memory>
     ensures { IfOk result (λ plan. PhraseCompilesTo reading.now next.old next.new plan (map item phrase.now)) }
 {
-    Ok(OperatorPlan::Phrase(numbered_phrase(
-        alloc, reading, phrase, next,
-    )?))
+    Ok(OperatorPlan::Phrase(numbered_phrase(alloc, reading, phrase, next)?))
 }
 
 /// What the words of the phrase have to be, under the next number.

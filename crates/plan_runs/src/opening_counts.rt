@@ -73,10 +73,7 @@ fn open_phrases<'v>(
     Ok(groups)
 }
 
-fn push_groups<'v>(
-    groups: Vec<TermGroup<'v>>,
-    all: &mut Vec<TermGroup<'v>>,
-) -> Result<(), Memory>
+fn push_groups<'v>(groups: Vec<TermGroup<'v>>, all: &mut Vec<TermGroup<'v>>) -> Result<(), Memory>
     ensures { OnOk result (term_groups all.new.items ≡ term_groups all.old.items ++ term_groups groups.entry.items) }
 {
     for group in groups {
