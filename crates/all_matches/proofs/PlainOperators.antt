@@ -79,7 +79,7 @@ module _ (lexicon : Lexicon) (options : Options) (tokens : List Token) where
   each-mode AllWords first strings e = each-word first strings e
   each-mode Phrase first strings e = some-phrase first (flat_map (λ string. string) strings ∷ [])
 
-  value-positive : (first : ℕ) (value : Words) → without_negation (value_operator lexicon options first value tokens) ≡ true
+  pub value-positive : (first : ℕ) (value : Words) → without_negation (value_operator lexicon options first value tokens) ≡ true
   value-positive first value = by_emptiness (list_all is_empty (strings_of lexicon options value)) refl
     where
       by_emptiness : (b : Bool) → list_all is_empty (strings_of lexicon options value) ≡ b
@@ -99,7 +99,7 @@ together-positive lexicon options first tokens (more form rest) some all =
 mutual
   unfolding operator_of without_not
 
-  positive : (lexicon : Lexicon) (options : Options) (first : ℕ) (tokens : List Token) (form : Form) → without_not form ≡ true
+  pub positive : (lexicon : Lexicon) (options : Options) (first : ℕ) (tokens : List Token) (form : Form) → without_not form ≡ true
       → without_negation (operator_of lexicon options first tokens form) ≡ true
   positive lexicon options first tokens (words value) h = value-positive lexicon (inside value.options options) tokens first value
   positive lexicon options first tokens (or_of forms) h =

@@ -22,7 +22,7 @@ any_on : {X : Type 0} (P : X → Type 0) (f g : X → Bool) → ((x : X) → P x
 any_on P f g same [] h = refl
 any_on P f g same (x ∷ xs) h = λ i. same x h.0 i || any_on P f g same xs h.1 i
 
-any_of : (test f g : Way → Bool) → ((way : Way) → test way ≡ true → f way ≡ g way) → (ways : List Way) → list_all test ways ≡ true → list_any f ways ≡ list_any g ways
+pub any_of : (test f g : Way → Bool) → ((way : Way) → test way ≡ true → f way ≡ g way) → (ways : List Way) → list_all test ways ≡ true → list_any f ways ≡ list_any g ways
 any_of test f g same [] h = refl
 any_of test f g same (way ∷ rest) h = let parts = and_parts (test way) (list_all test rest) h in λ i. same way parts.0 i || any_of test f g same rest parts.1 i
 
@@ -77,7 +77,7 @@ filter_includes : (kind : Filter) (includes : List Hit) (choice : Option Window)
 filter_includes kind includes choice [] = tt
 filter_includes kind includes choice (m ∷ rest) = (refl, filter_includes kind includes choice rest)
 
-made_includes : (way : Way) → is_good way ≡ true → AllByRecursion (λ m. m.includes ≡ way_includes way) (made way)
+pub made_includes : (way : Way) → is_good way ≡ true → AllByRecursion (λ m. m.includes ≡ way_includes way) (made way)
 made_includes (one_hit hit) h = (refl, tt)
 made_includes (two_ways left right) h =
     let parts = and_parts (is_good left) (is_good right) h in
