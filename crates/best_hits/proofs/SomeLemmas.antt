@@ -1,5 +1,5 @@
 -- Some item of a list that is joined or mapped; Matches that are both needed.
-use Rattle.std.proofs.Common.{◌≡◌, refl, ap, ◌∙◌, List, [], ◌∷◌, ◌++◌, inl, inr, Bool, true, false, ◌||◌}
+use Rattle.std.proofs.Common.{◌≡◌, ap, ◌∙◌, List, [], ◌∷◌, ◌++◌, inl, inr, true, ◌||◌}
 use Rattle.std.specs.Prelude.{map}
 use Rattle.std.proofs.lemmas.Bool.{and_from, or_right}
 use Rattle.ft_base.specs.declared.hit.Hit.{Hit}
