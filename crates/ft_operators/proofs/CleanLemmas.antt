@@ -7,7 +7,6 @@ use Rattle.std.proofs.Math.Seq.{drop-cons}
 use Rattle.ft_base.specs.Lists.{is_not_empty}
 use Rattle.ft_base.specs.declared.filter.Filter.{Filter}
 use Rattle.ft_base.specs.declared.hit.Hit.{Hit}
-use Rattle.ft_base.specs.declared.span.Span.{Span}
 use Rattle.all_matches.specs.declared.window.Window.{Window}
 use Rattle.all_matches.specs.Chain.{Link, kept_by}
 use Rattle.all_matches.specs.Filters.{passes, choices}

@@ -65,7 +65,7 @@ any_pairs test rights lefts =
     list_any-flat_map test (λ a. map (two_ways a) rights) lefts
     ∙ list_any-alike (λ a. list_any test (map (two_ways a) rights)) (λ a. list_any (λ b. test (two_ways a b)) rights) lefts (λ a. list_any-map test (two_ways a) rights)
 
-any_kept : (test kept : Way → Bool) (ways : List Way) → list_any test (filter kept ways) ≡ list_any (λ a. kept a && test a) ways
+pub any_kept : (test kept : Way → Bool) (ways : List Way) → list_any test (filter kept ways) ≡ list_any (λ a. kept a && test a) ways
 any_kept test kept [] = refl
 any_kept test kept (way ∷ rest) = by_test (kept way) (any_kept test kept rest)
   where
@@ -318,6 +318,20 @@ clean_told item extent beside operator kept held out =
     let course = tellings item extent beside in
     told_few course operator (clean_under kept) held
     (ways_tell operator course (few_and course (clean_under kept)) tt held out (few_respects ⊤ course (clean_under kept) (λ better way s h. s.clean tt kept h)) (bounded_nowhere course (clean_under kept)))
+
+-- the same of clean ways whose includes pass a test
+pub clean_and_told : (item : Span) (extent beside : Option Extent) (operator : Operator) (kept : Hit → Bool) (of : List Hit → Bool) → holds extent (extent_inside operator) ≡ true → holds beside (extent_beside operator) ≡ true
+    → list_any (λ way. clean_under kept way && of (way_includes way)) (ways_on (tellings item extent beside) operator) ≡ list_any (λ way. clean_under kept way && of (way_includes way)) (ways_of item operator)
+clean_and_told item extent beside operator kept of held out =
+    let course = tellings item extent beside in
+    told_few course operator (λ way. clean_under kept way && of (way_includes way)) held
+    (ways_tell operator course (few_and course (λ way. clean_under kept way && of (way_includes way))) tt held out
+    (few_respects ⊤ course (λ way. clean_under kept way && of (way_includes way)) respects) (bounded_nowhere course (λ way. clean_under kept way && of (way_includes way))))
+  where
+    respects : Respects ⊤ (λ way. clean_under kept way && of (way_includes way))
+    respects better way s h =
+        let parts = and_parts (clean_under kept way) (of (way_includes way)) h in
+        λ i. s.clean tt kept parts.0 i && (ap of s.same ∙ parts.1) i
 
 -- those that are kept lie in bounds
 pub kept_told : (item : Span) (bounds : Bounds) (extent beside : Option Extent) (operator : Operator) (kept : Hit → Bool) → ((hit : Hit) → kept hit ≡ true → lies_in bounds hit ≡ true)

@@ -4,4 +4,5 @@ pub mod Walking
 pub mod Pairs
 pub mod Apart
 pub mod Cleaning
+pub mod Comparing
 pub mod Measuring

@@ -21,6 +21,7 @@ mod chain;
 mod chain_room;
 mod choosing;
 mod cleaning;
+mod comparing;
 mod course;
 pub mod examples;
 mod extent;

@@ -10,6 +10,7 @@ use crate::chain::Chain;
 use crate::chain_room::{ChainRoom, no_room, wider, with_filter};
 use crate::choosing::sieve_window;
 use crate::cleaning::{is_clean, some_is_clean};
+use crate::comparing::least_of_clean;
 use crate::course::{every, tellings};
 use crate::gathering::hold;
 use crate::joining::joined_memory;
@@ -45,11 +46,14 @@ pub struct Tuples<P> {
 }
 
 impl<P: PhraseHits + Drop> Tuples<P> {
-    ghost use Rattle.std.specs.Prelude.{◌≡◌, ◌≤◌, [], true, vec_capacity, IfOk};
+    ghost use Rattle.std.specs.Prelude.{◌≡◌, ◌≤◌, [], filter, map, true, vec_capacity, IfOk, OnOk};
     ghost use Rattle.ft_base.specs.Lists.{is_not_empty};
     ghost use Rattle.all_matches.specs.Boolean.{satisfied};
     ghost use Rattle.all_matches.specs.Chain.{kept_by};
     ghost use Rattle.all_matches.specs.Ways.{apart, either, is_plain, matches_of, negated, through_filter, together};
+    ghost use Rattle.all_matches.specs.Ways.{clean_under, way_includes, ways_of};
+    ghost use Rattle.best_hits.specs.Best.{spans_of};
+    ghost use Rattle.best_hits.specs.Least.{least as least_of};
     ghost use Rattle.ft_operators.specs.Chains.{clean_now, links_of, outer_window, spare_filters, spare_hits, IsKept};
     ghost use Rattle.ft_operators.specs.Tuples.{room_of, walk_of};
     ghost use Rattle.ft_operators.specs.Walk.{aimed_walk, at_first_way, at_next_way, before_first, joined_walk, made_walk, nowhere, own_span};
@@ -264,5 +268,41 @@ impl<P: PhraseHits + Drop> Tuples<P> {
         let extents = extents_inside(&mut self.node, steps);
         let tellings = tellings(self.item, extents.inside, extents.beside);
         some_is_clean(&mut self.node, tellings, chain, &mut self.held, steps)
+    }
+    /// Aims the phrases at the span of the document, and puts the includes of one of its clean ways in the place of what `least` holds:
+    /// those that come first, hit by hit by their places; and no hit where no way is clean. Negated selections stand neither inside one
+    /// another nor inside mild not; else nothing is said of what is put. It goes through no more ways than `satisfied_at`, and takes no
+    /// memory but for `least`.
+    pub fn least_at<L: Ledger>(
+        &mut self,
+        doc: DocId,
+        span: Span,
+        chain: &mut Chain,
+        least: &mut Vec<Hit>,
+        steps: &mut Steps<L>,
+    ) -> Result<(), Memory>
+        requires may { (walk_of P.state self.old).aims.may doc.0 span ≡ true }
+        requires none { links_of chain.old ≡ [] }
+        requires filters { (room_of self.old).filters ≤ spare_filters chain.old }
+        requires hits { (room_of self.old).hits ≤ spare_hits chain.old }
+        ensures least { OnOk result (is_plain ((walk_of P.state self.old).aims.operators doc.0 span) ≡ true
+            → spans_of least.new.items ≡ spans_of (least_of (map way_includes
+            (filter (clean_under (kept_by [])) (ways_of (own_span span) ((walk_of P.state self.old).aims.operators doc.0 span)))))) }
+        ensures walk { walk_of P.state self.new ≡ aimed_walk doc.0 span (walk_of P.state self.old) }
+        ensures room { room_of self.new ≡ room_of self.old }
+        ensures chain { IsKept chain.old chain.new }
+        ensures grown { steps.old ≤ steps.new }
+    {
+        self.aim(doc, span, steps);
+        let extents = extents_inside(&mut self.node, steps);
+        let tellings = tellings(self.item, extents.inside, extents.beside);
+        least_of_clean(
+            &mut self.node,
+            tellings,
+            chain,
+            &mut self.held,
+            least,
+            steps,
+        )
     }
 }

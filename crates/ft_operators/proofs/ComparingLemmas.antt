@@ -1,0 +1,92 @@
+-- Going through ways for the least includes of those that pass a test.
+use Rattle.std.proofs.Common.{◌≡◌, refl, ap, sym, ◌∙◌, ℕ, List, [], ◌∷◌, Bool, true, false, ◌&&◌, cond, filter, map}
+use Rattle.std.specs.Prelude.{Option, Some, None}
+use Rattle.std.specs.List.{list_any}
+use Rattle.ft_base.specs.Lists.{is_not_empty}
+use Rattle.ft_base.specs.declared.hit.Hit.{Hit}
+use Rattle.ft_base.specs.declared.span.Span.{Span}
+use Rattle.all_matches.specs.Chain.{Link, kept_by}
+use Rattle.all_matches.specs.Ways.{Operator, Way, clean_under, way_includes, ways_of}
+use Rattle.all_matches.proofs.ListTests.{list_any-map}
+use Rattle.best_hits.specs.Best.{spans_of}
+use Rattle.best_hits.specs.Least.{comes_before, least, least_from}
+use Rattle.best_hits.proofs.LeastAlike.{least-alike}
+use Rattle.ft_operators.specs.declared.chain.Chain.{Chain}
+use Rattle.ft_operators.specs.declared.course.Course.{Course}
+use Rattle.ft_operators.specs.declared.extent.Extent.{Extent}
+use Rattle.ft_operators.specs.Chains.{links_of}
+use Rattle.ft_operators.specs.Course.{tellings, ways_on}
+use Rattle.ft_operators.specs.Extents.{extent_beside, extent_inside}
+use Rattle.ft_operators.specs.Standing.{Standing}
+use Rattle.ft_operators.specs.steps.Cleaning.{tells}
+use Rattle.ft_operators.specs.steps.Comparing.{Comparing, least_after, so_far}
+use Rattle.ft_operators.specs.steps.Measuring.{holds}
+use Rattle.ft_operators.proofs.CourseLemmas.{any_kept, clean_and_told}
+
+-- ---- the least of ways
+
+after_some : (test : Way → Bool) (ways : List Way) (best : List Hit) → least_after test (Some best) ways ≡ Some (least_from best (map way_includes (filter test ways)))
+after_some test [] best = refl
+after_some test (way ∷ rest) best = by_test (test way) (after_some test rest)
+  where
+    by_test : (b : Bool) → ((better : List Hit) → least_after test (Some better) rest ≡ Some (least_from better (map way_includes (filter test rest))))
+        → least_after test (cond b (Some (cond (comes_before (way_includes way) best) (way_includes way) best)) (Some best)) rest
+        ≡ Some (least_from best (map way_includes (cond b (way ∷ filter test rest) (filter test rest))))
+    by_test true later = later (cond (comes_before (way_includes way) best) (way_includes way) best)
+    by_test false later = later best
+
+-- the least of lists, if there are any
+least_found : List (List Hit) → Option (List Hit)
+least_found [] = None
+least_found (first ∷ rest) = Some (least_from first rest)
+
+after_none : (test : Way → Bool) (ways : List Way) → least_after test None ways ≡ least_found (map way_includes (filter test ways))
+unfolding least_found
+after_none test [] = refl
+after_none test (way ∷ rest) = by_test (test way) (after_none test rest)
+  where
+    by_test : (b : Bool) → least_after test None rest ≡ least_found (map way_includes (filter test rest))
+        → least_after test (cond b (Some (way_includes way)) None) rest ≡ least_found (map way_includes (cond b (way ∷ filter test rest) (filter test rest)))
+    by_test true later = after_some test rest (way_includes way)
+    by_test false later = later
+
+found_least : (any : Bool) (hits : List Hit) (lists : List (List Hit)) → so_far any hits ≡ least_found lists → (any ≡ false → hits ≡ []) → hits ≡ least lists
+unfolding least_found
+found_least true hits [] same none = cc
+found_least true hits (first ∷ rest) same none = cc
+found_least false hits [] same none = none refl
+found_least false hits (first ∷ rest) same none = cc
+
+after_end : (test : Way → Bool) (kept : Option (List Hit)) (ways : List Way) → is_not_empty ways ≡ false → kept ≡ least_after test kept ways
+after_end test kept [] none = refl
+after_end test kept (way ∷ rest) none = cc
+
+-- ---- at the end of the loop
+
+module _ (course : Course) (old now : Standing) (before after : Chain) (room now_room start end : ℕ) (there any : Bool) (hits : List Hit)
+    (l : Comparing course (clean_under (kept_by (links_of before))) old now before after room now_room start end there any hits) where
+  pub comparing_ends : there ≡ false → tells course old.operator ≡ true → hits ≡ least (map way_includes (filter (clean_under (kept_by (links_of before))) (ways_on course old.operator)))
+  comparing_ends none told =
+      let test = clean_under (kept_by (links_of before)) in
+      let ways = ways_on course old.operator in
+      found_least any hits (map way_includes (filter test ways))
+      (after_end test (so_far any hits) now.rest (sym l.there_now ∙ none) ∙ l.passed told ∙ after_none test ways) l.none
+
+-- ---- the ways that tell which are clean have the least of all ways
+
+any_includes : (p : List Hit → Bool) (test : Way → Bool) (ways : List Way) → list_any p (map way_includes (filter test ways)) ≡ list_any (λ way. test way && p (way_includes way)) ways
+any_includes p test ways = list_any-map p way_includes (filter test ways) ∙ any_kept (λ way. p (way_includes way)) test ways
+
+pub least_told : (item : Span) (extent beside : Option Extent) (operator : Operator) (links : List Link) → links ≡ [] → holds extent (extent_inside operator) ≡ true → holds beside (extent_beside operator) ≡ true
+    → spans_of (least (map way_includes (filter (clean_under (kept_by links)) (ways_on (tellings item extent beside) operator))))
+    ≡ spans_of (least (map way_includes (filter (clean_under (kept_by [])) (ways_of item operator))))
+least_told item extent beside operator links none held out =
+    ap (λ ls. spans_of (least (map way_includes (filter (clean_under (kept_by ls)) (ways_on (tellings item extent beside) operator))))) none
+    ∙ least-alike (map way_includes (filter test told)) (map way_includes (filter test (ways_of item operator)))
+    (λ p. any_includes p test told ∙ clean_and_told item extent beside operator (kept_by []) p held out ∙ sym (any_includes p test (ways_of item operator)))
+  where
+    test : Way → Bool
+    test = clean_under (kept_by [])
+
+    told : List Way
+    told = ways_on (tellings item extent beside) operator
