@@ -18,8 +18,6 @@ mod items;
 pub mod laws;
 mod passing;
 mod starting;
-#[cfg(test)]
-mod tests;
 mod window;
 mod words;
 

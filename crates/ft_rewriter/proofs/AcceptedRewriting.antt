@@ -23,7 +23,7 @@ use Rattle.ft_rewriter.proofs.OperandTests.{listed-forms_of, many_without_repeat
 mutual
   unfolding given without_times
 
-  times-given : (outer : Options) (form : Form) → without_times (given outer form) ≡ without_times form
+  pub times-given : (outer : Options) (form : Form) → without_times (given outer form) ≡ without_times form
   times-given outer (words value) = refl
   times-given outer (or_of forms) = each_times-given outer forms
   times-given outer (and_of forms) = each_times-given outer forms
@@ -119,6 +119,9 @@ mutual
   some_needs-given outer none = refl
   some_needs-given outer (more form rest) = λ i. needs-given outer form i || some_needs-given outer rest i
 
+pub counted-given : (outer : Options) (form : Form) (kind : Filter) → is_counted (given outer form) kind ≡ is_counted form kind
+counted-given outer form kind = λ i. is_some (field_of kind) && (shape-given outer form i && needs-given outer form i)
+
 mutual
   unfolding given is_accepted
 
@@ -130,7 +133,7 @@ mutual
       λ i. (times-given outer left i && not-given outer left i) && (times-given outer right i && not-given outer right i)
   accepted-given outer (not_of form) = accepted-given outer form
   accepted-given outer (filtered form kind) =
-      λ i. (times-given outer form i && plain-given outer form i) || (is_some (field_of kind) && (shape-given outer form i && needs-given outer form i))
+      λ i. (times-given outer form i && plain-given outer form i) || counted-given outer form kind i
   accepted-given outer (with_options form inner) = accepted-given _ form
 
   each_accepted-given : (outer : Options) (forms : Forms) → each_is_accepted (each_given outer forms) ≡ each_is_accepted forms
@@ -187,12 +190,35 @@ unfolding is_accepted
 each_accepted none = refl
 each_accepted (more form rest) = ap (λ b. is_accepted form && b) (each_accepted rest)
 
-times_flat : (c : Connective) (forms : List Form) → list_all without_times forms ≡ true → each_without_times (forms_of (flat_map (operands_in c) forms)) ≡ true
+-- where operands pass a test as their selection does
+all_flat : (c : Connective) (test : Form → Bool) → ((form : Form) → list_all test (operands_in c form) ≡ test form) → (forms : List Form)
+    → list_all test (flat_map (operands_in c) forms) ≡ list_all test forms
+all_flat c test same [] = refl
+all_flat c test same (form ∷ rest) =
+    list_all-append test (operands_in c form) (flat_map (operands_in c) rest) ∙ (λ i. same form i && all_flat c test same rest i)
+
+times_operands : (c : Connective) (form : Form) → list_all without_times (operands_in c form) ≡ without_times form
 unfolding without_times
-times_flat c forms h =
+times_operands Or (words value) = and-true (without_times (words value))
+times_operands Or (or_of forms) = sym (each_times forms)
+times_operands Or (and_of forms) = and-true (each_without_times forms)
+times_operands Or (mild_not left right) = and-true (without_times left && without_times right)
+times_operands Or (not_of form) = and-true (without_times form)
+times_operands Or (filtered form kind) = and-true (without_times form)
+times_operands Or (with_options form inner) = and-true (without_times form)
+times_operands And (words value) = and-true (without_times (words value))
+times_operands And (or_of forms) = and-true (each_without_times forms)
+times_operands And (and_of forms) = sym (each_times forms)
+times_operands And (mild_not left right) = and-true (without_times left && without_times right)
+times_operands And (not_of form) = and-true (without_times form)
+times_operands And (filtered form kind) = and-true (without_times form)
+times_operands And (with_options form inner) = and-true (without_times form)
+
+times_flat : (c : Connective) (forms : List Form) → each_without_times (forms_of (flat_map (operands_in c) forms)) ≡ list_all without_times forms
+times_flat c forms =
     each_times (forms_of (flat_map (operands_in c) forms))
     ∙ ap (list_all without_times) (listed-forms_of (flat_map (operands_in c) forms))
-    ∙ flat_pass without_times (λ parts all. sym (each_times parts) ∙ all) (λ parts all. sym (each_times parts) ∙ all) c forms h
+    ∙ all_flat c without_times (times_operands c) forms
 
 not_flat : (c : Connective) (forms : List Form) → list_all without_not forms ≡ true → each_without_not (forms_of (flat_map (operands_in c) forms)) ≡ true
 unfolding without_not
@@ -233,22 +259,18 @@ gives_some (with_options form inner) h = refl
 mutual
   unfolding flattened without_times
 
-  times-flattened : (form : Form) → without_times form ≡ true → without_times (flattened form) ≡ true
-  times-flattened (words value) h = h
-  times-flattened (or_of forms) h = times_flat Or (each_flattened forms) (each_times-flattened forms h)
-  times-flattened (and_of forms) h = times_flat And (each_flattened forms) (each_times-flattened forms h)
-  times-flattened (mild_not left right) h =
-      let sides = and_parts (without_times left) (without_times right) h in
-      and_from (without_times (flattened left)) (without_times (flattened right)) (times-flattened left sides.0) (times-flattened right sides.1)
-  times-flattened (not_of form) h = times-flattened form h
-  times-flattened (filtered form kind) h = times-flattened form h
-  times-flattened (with_options form inner) h = times-flattened form h
+  pub times-flattened : (form : Form) → without_times (flattened form) ≡ without_times form
+  times-flattened (words value) = refl
+  times-flattened (or_of forms) = times_flat Or (each_flattened forms) ∙ each_times-flattened forms
+  times-flattened (and_of forms) = times_flat And (each_flattened forms) ∙ each_times-flattened forms
+  times-flattened (mild_not left right) = λ i. times-flattened left i && times-flattened right i
+  times-flattened (not_of form) = times-flattened form
+  times-flattened (filtered form kind) = times-flattened form
+  times-flattened (with_options form inner) = times-flattened form
 
-  each_times-flattened : (forms : Forms) → each_without_times forms ≡ true → list_all without_times (each_flattened forms) ≡ true
-  each_times-flattened none h = refl
-  each_times-flattened (more form rest) h =
-      let parts = and_parts (without_times form) (each_without_times rest) h in
-      and_from (without_times (flattened form)) (list_all without_times (each_flattened rest)) (times-flattened form parts.0) (each_times-flattened rest parts.1)
+  each_times-flattened : (forms : Forms) → list_all without_times (each_flattened forms) ≡ each_without_times forms
+  each_times-flattened none = refl
+  each_times-flattened (more form rest) = λ i. times-flattened form i && each_times-flattened rest i
 
 mutual
   unfolding flattened without_not
@@ -302,7 +324,7 @@ mutual
 out-flattened : (form : Form) → may_stand_out form ≡ true → may_stand_out (flattened form) ≡ true
 out-flattened form h =
     let parts = and_parts (without_times form) (without_not form) h in
-    and_from (without_times (flattened form)) (without_not (flattened form)) (times-flattened form parts.0) (not-flattened form parts.1)
+    and_from (without_times (flattened form)) (without_not (flattened form)) (times-flattened form ∙ parts.0) (not-flattened form parts.1)
 
 -- ---- counted shapes, which keep their items where an And inside gives its operands
 
@@ -350,12 +372,6 @@ each_operands (mild_not left right) = refl
 each_operands (not_of form) = refl
 each_operands (filtered form kind) = refl
 each_operands (with_options form inner) = and-true (needs_hit form)
-
-all_flat : (c : Connective) (test : Form → Bool) → ((form : Form) → list_all test (operands_in c form) ≡ test form) → (forms : List Form)
-    → list_all test (flat_map (operands_in c) forms) ≡ list_all test forms
-all_flat c test same [] = refl
-all_flat c test same (form ∷ rest) =
-    list_all-append test (operands_in c form) (flat_map (operands_in c) rest) ∙ (λ i. same form i && all_flat c test same rest i)
 
 any_flat : (c : Connective) (test : Form → Bool) → ((form : Form) → list_any test (operands_in c form) ≡ test form) → (forms : List Form)
     → list_any test (flat_map (operands_in c) forms) ≡ list_any test forms
@@ -415,6 +431,9 @@ mutual
   some_needs-flattened none = refl
   some_needs-flattened (more form rest) = λ i. needs-flattened form i || some_needs-flattened rest i
 
+pub counted-flattened : (form : Form) (kind : Filter) → is_counted (flattened form) kind ≡ is_counted form kind
+counted-flattened form kind = λ i. is_some (field_of kind) && (shape-flattened form i && needs-flattened form i)
+
 -- what only its Matches tell
 mild_not-flattened : (left right : Form) → is_accepted (mild_not left right) ≡ true → is_accepted (flattened (mild_not left right)) ≡ true
 unfolding flattened is_accepted
@@ -427,16 +446,13 @@ unfolding flattened is_accepted
 filtered-flattened form kind h =
     by_test (may_be_filtered form) refl
   where
-    counted_same : is_counted (flattened form) kind ≡ is_counted form kind
-    counted_same = λ i. is_some (field_of kind) && (shape-flattened form i && needs-flattened form i)
-
     by_test : (b : Bool) → may_be_filtered form ≡ b → (may_be_filtered (flattened form) || is_counted (flattened form) kind) ≡ true
     by_test true e =
         let parts = and_parts (without_times form) (has_plain_nots form) e in
         or_left (may_be_filtered (flattened form)) (is_counted (flattened form) kind)
-        (and_from (without_times (flattened form)) (has_plain_nots (flattened form)) (times-flattened form parts.0) (plain-flattened form parts.1))
+        (and_from (without_times (flattened form)) (has_plain_nots (flattened form)) (times-flattened form ∙ parts.0) (plain-flattened form parts.1))
     by_test false e =
-        or_right (may_be_filtered (flattened form)) (is_counted (flattened form) kind) (counted_same ∙ sym (ap (λ b. b || is_counted form kind) e) ∙ h)
+        or_right (may_be_filtered (flattened form)) (is_counted (flattened form) kind) (counted-flattened form kind ∙ sym (ap (λ b. b || is_counted form kind) e) ∙ h)
 
 -- ---- `ftnot` moved inwards
 

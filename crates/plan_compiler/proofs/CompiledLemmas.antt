@@ -76,7 +76,7 @@ module _ (looks : Looks) (lists : NamedLists) (options : Options) where
         let plain = words_priced looks lists terms text (inside value.options options) plan value compiled served in
         let whole = words_price terms text value in
         omega (arith, cost, plain, whole);
-    cheap = λ h. cheap-Words plan;
+    cheap = λ counts h. cheap-Words counts plan;
   }
 
   module _ (selection : Selection) where
@@ -88,7 +88,10 @@ module _ (looks : Looks) (lists : NamedLists) (options : Options) where
           let whole = ap (price_of terms text) (ap form e ∙ form-Or parts) ∙ or_price terms text parts in
           let most = all.price terms text in
           omega (arith, cost, whole, most);
-      cheap = λ h. cheap-Or nodes ∙ all.cheap (sym (are_cheap (lexicon lists) options parts) ∙ or_cheap (lexicon lists) options (forms_of (map form parts)) (sym (ap (is_cheap_under (lexicon lists) options) (ap form e ∙ form-Or parts)) ∙ h));
+      cheap = λ counts h.
+          cheap-Or counts nodes
+          ∙ all.cheap counts (sym (are_cheap counts (lexicon lists) options parts)
+          ∙ or_cheap counts (lexicon lists) options (forms_of (map form parts)) (sym (ap (is_cheap_under counts (lexicon lists) options) (ap form e ∙ form-Or parts)) ∙ h));
     }
 
     pub and_compiles : (parts : List Selection) → selection ≡ S.And parts → (nodes : List Node) → CompileAll looks lists options nodes parts → Compiles looks lists options (N.And nodes) (form selection)
@@ -99,7 +102,10 @@ module _ (looks : Looks) (lists : NamedLists) (options : Options) where
           let whole = ap (price_of terms text) (ap form e ∙ form-And parts) ∙ and_price terms text parts in
           let most = all.price terms text in
           omega (arith, cost, whole, most);
-      cheap = λ h. cheap-And nodes ∙ all.cheap (sym (are_cheap (lexicon lists) options parts) ∙ and_cheap (lexicon lists) options (forms_of (map form parts)) (sym (ap (is_cheap_under (lexicon lists) options) (ap form e ∙ form-And parts)) ∙ h));
+      cheap = λ counts h.
+          cheap-And counts nodes
+          ∙ all.cheap counts (sym (are_cheap counts (lexicon lists) options parts)
+          ∙ and_cheap counts (lexicon lists) options (forms_of (map form parts)) (sym (ap (is_cheap_under counts (lexicon lists) options) (ap form e ∙ form-And parts)) ∙ h));
     }
 
     pub not_compiles : (operand : Box Selection Global) → selection ≡ S.Not operand → (node : Box Node Global) → Compiles looks lists options node.value (form operand.value)
@@ -111,7 +117,9 @@ module _ (looks : Looks) (lists : NamedLists) (options : Options) where
           let whole = ap (price_of terms text) (ap form e ∙ form-Not operand) ∙ not_price terms text (form operand.value) in
           let most = part.price terms text in
           omega (arith, cost, whole, most);
-      cheap = λ h. cheap-Not node ∙ part.cheap (not_cheap (lexicon lists) options (form operand.value) (sym (ap (is_cheap_under (lexicon lists) options) (ap form e ∙ form-Not operand)) ∙ h));
+      cheap = λ counts h.
+          cheap-Not counts node
+          ∙ part.cheap counts (not_cheap counts (lexicon lists) options (form operand.value) (sym (ap (is_cheap_under counts (lexicon lists) options) (ap form e ∙ form-Not operand)) ∙ h));
     }
 
     pub with_compiles : (operand : Box Selection Global) (inner : Options) → selection ≡ S.With operand inner → (node : Node) → Compiles looks lists (inside inner options) node (form operand.value)
@@ -122,7 +130,8 @@ module _ (looks : Looks) (lists : NamedLists) (options : Options) where
           let whole = ap (price_of terms text) (ap form e ∙ form-With operand inner) ∙ with_price terms text (form operand.value) inner in
           let most = part.price terms text in
           omega (arith, whole, most);
-      cheap = λ h. part.cheap (with_cheap (lexicon lists) options (form operand.value) inner (sym (ap (is_cheap_under (lexicon lists) options) (ap form e ∙ form-With operand inner)) ∙ h));
+      cheap = λ counts h.
+          part.cheap counts (with_cheap counts (lexicon lists) options (form operand.value) inner (sym (ap (is_cheap_under counts (lexicon lists) options) (ap form e ∙ form-With operand inner)) ∙ h));
     }
 
   -- one operand more
@@ -139,11 +148,13 @@ module _ (looks : Looks) (lists : NamedLists) (options : Options) where
         let before = all.price terms text in
         let then = one.price terms text in
         omega (arith, sum, more, own, before, then);
-    cheap = λ h.
-        let each : Selection → Bool = λ p. is_cheap_under (lexicon lists) options (form p) in
+    cheap = λ counts h.
+        let each : Selection → Bool = λ p. is_cheap_under counts (lexicon lists) options (form p) in
+        let node_cheap = is_cheap_node counts in
         let taken : take (i + 1) parts ≡ take i parts ++ part ∷ [] = take_more parts i part below ∙ ap (λ p. take i parts ++ p ∷ []) (sym is) in
         let sides = and_parts (list_all each (take i parts)) (list_all each (part ∷ [])) (sym (list_all-append each (take i parts) (part ∷ [])) ∙ ap (list_all each) (sym taken) ∙ h) in
-        ap (list_all is_cheap_node) pushed
-        ∙ list_all-append is_cheap_node nodes (node ∷ [])
-        ∙ and_from (list_all is_cheap_node nodes) (list_all is_cheap_node (node ∷ [])) (all.cheap sides.0) (λ j. one.cheap (and_parts (each part) true sides.1).0 j && true);
+        ap (list_all node_cheap) pushed
+        ∙ list_all-append node_cheap nodes (node ∷ [])
+        ∙ and_from (list_all node_cheap nodes) (list_all node_cheap (node ∷ [])) (all.cheap counts sides.0)
+        (λ j. one.cheap counts (and_parts (each part) true sides.1).0 j && true);
   }

@@ -1,8 +1,8 @@
 -- Compiled counted shapes say what the shapes say, at their price.
-use Rattle.std.proofs.Common.{◌≡◌, refl, ap, sym, subst, ◌∙◌, ℕ, ◌+◌, ◌<◌, Bool, true, false, true≢false, not, ◌&&◌, List, [], ◌∷◌, ◌++◌, map, take, get_or, length, Option, Some, None, arith, append-nil, append_assoc, Box, Global}
+use Rattle.std.proofs.Common.{◌≡◌, refl, ap, sym, subst, ◌∙◌, ℕ, ◌+◌, ◌<◌, Bool, true, false, true≢false, not, ◌&&◌, inl, inr, List, [], ◌∷◌, ◌++◌, map, take, get_or, length, Option, Some, None, arith, append-nil, append_assoc, Box, Global}
 use Rattle.std.specs.Prelude.{is_some, nat_lt}
 use Rattle.std.specs.List.{list_any, sum_by}
-use Rattle.std.proofs.lemmas.Bool.{and_parts}
+use Rattle.std.proofs.lemmas.Bool.{and_parts, or_cases}
 use Rattle.std.proofs.lemmas.List.{map-append, take_more}
 use Rattle.std.proofs.lemmas.List.Sums.{sum_by_push}
 use Rattle.ft_base.specs.Selection.{Form, Forms, words, or_of, and_of, mild_not, not_of, filtered, with_options, none, more}
@@ -23,7 +23,7 @@ use Rattle.counted_shapes.specs.declared.field.Field.{Field}
 use Rattle.counted_shapes.proofs.AcceptedLemmas.{counted-field}
 use Rattle.counted_shapes.proofs.ItemLemmas.{shape-needs}
 use Rattle.index_meaning.specs.Entries.{Entry}
-use Rattle.plan_compiler.specs.CheapSelections.{are_single_words, is_cheap_filter, is_cheap_under, is_single_value, is_single_word, joins_words}
+use Rattle.plan_compiler.specs.CheapSelections.{are_single_words, counts_words, is_cheap_filter, is_cheap_under, is_single_value, is_single_word, joins_words}
 use Rattle.plan_compiler.specs.CompiledCounts.{BareCounts, EachItemCompilesTo, ItemsCompileTo, ValueCounts}
 use Rattle.plan_compiler.specs.CompiledSelection.{Compiles, compiled_price}
 use Rattle.plan_compiler.specs.CountedPlans.{counted_at, counted_truth, hits_of_phrases, items_cost, phrases_cost}
@@ -37,7 +37,7 @@ use Rattle.plan_compiler.specs.declared.counted_plan.CountedWords.{CountedWords}
 use Rattle.plan_compiler.specs.declared.looks.Looks.{Looks}
 use Rattle.plan_compiler.specs.declared.node.Node as N
 use Rattle.plan_compiler.specs.declared.operator_plan.PhraseTests.{PhraseTests}
-use Rattle.plan_compiler.proofs.NodeViews.{cost-Counted, truth-Counted}
+use Rattle.plan_compiler.proofs.NodeViews.{cheap-Counted, cost-Counted, truth-Counted}
 use Rattle.plan_compiler.proofs.OperatorLemmas.{prices_more, served_parts}
 use Rattle.plan_compiler.proofs.SelectionMeaning.{served_inside}
 use Rattle.plan_compiler.proofs.ServedLemmas.{everything_serves}
@@ -231,7 +231,12 @@ module _ (lists : NamedLists) (options : Options) (operand : Form) (kind : Filte
         let own = cost-Counted cost plan ∙ ap (items_cost cost) is in
         let most = compiled.price looks terms text outer inner in
         omega (arith, own, most);
-    cheap = λ h.
-        let joined = (and_parts (is_cheap_filter kind) (joins_words (lexicon lists) options operand) h).1 in
-        absurd (true≢false (sym (joined_without lists options operand joined) ∙ times));
+    cheap = λ counts h.
+        cheap-Counted counts plan
+        ∙ elim (or_cases (is_cheap_filter kind && joins_words (lexicon lists) options operand) (counts && counts_words operand kind) h) [
+          | inl cheap ↦
+              let joined = (and_parts (is_cheap_filter kind) (joins_words (lexicon lists) options operand) cheap).1 in
+              absurd (true≢false (sym (joined_without lists options operand joined) ∙ times))
+          | inr counted ↦ (and_parts counts (counts_words operand kind) counted).0
+        ];
   }

@@ -23,6 +23,9 @@ mod OperatorLemmas
 mod UnitingLemmas
 mod WaysLaw
 mod TimesLemmas
+mod ShowableLemmas
+pub mod ShownViews
+mod ShownLemmas
 mod SkippedShapes
 mod CountedPhrases
 mod CountedLemmas

@@ -1,5 +1,5 @@
 -- What each kind of compiled selection says, and what its tests cost.
-use Rattle.std.proofs.Common.{◌≡◌, refl, ap, ◌∙◌, ℕ, true, false, sum, List, [], ◌∷◌, map, Box, Global, rules, not, ◌&&◌, ◌||◌}
+use Rattle.std.proofs.Common.{◌≡◌, refl, ap, ◌∙◌, ℕ, Bool, true, sum, List, [], ◌∷◌, map, Box, Global, rules, not, ◌&&◌, ◌||◌}
 use Rattle.std.specs.List.{list_any, list_all, sum_by}
 use Rattle.std.proofs.lemmas.List.Folds.{list_all-map}
 use Rattle.std.proofs.lemmas.List.Sums.{sum-map}
@@ -90,32 +90,33 @@ module _ (cost : ItemTest → ℕ) where
 
 -- ---- whether they are cheap
 
-pub cheap-Words : (plan : WordsPlan) → is_cheap_node (Words plan) ≡ true
-unfolding is_cheap_node
-cheap-Words plan = search (rules, the_lemmas)
+module _ (counts : Bool) where
+  pub cheap-Words : (plan : WordsPlan) → is_cheap_node counts (Words plan) ≡ true
+  unfolding is_cheap_node
+  cheap-Words plan = search (rules, the_lemmas)
 
-cheap-parts : (parts : List Node) → is_cheap_node (Or parts) ≡ list_all (λ part. part) (map is_cheap_node parts)
-unfolding is_cheap_node
-cheap-parts parts = search (rules, the_lemmas)
+  cheap-parts : (parts : List Node) → is_cheap_node counts (Or parts) ≡ list_all (λ part. part) (map (is_cheap_node counts) parts)
+  unfolding is_cheap_node
+  cheap-parts parts = search (rules, the_lemmas)
 
-cheap-all_parts : (parts : List Node) → is_cheap_node (And parts) ≡ list_all (λ part. part) (map is_cheap_node parts)
-unfolding is_cheap_node
-cheap-all_parts parts = search (rules, the_lemmas)
+  cheap-all_parts : (parts : List Node) → is_cheap_node counts (And parts) ≡ list_all (λ part. part) (map (is_cheap_node counts) parts)
+  unfolding is_cheap_node
+  cheap-all_parts parts = search (rules, the_lemmas)
 
-pub cheap-Or : (parts : List Node) → is_cheap_node (Or parts) ≡ list_all is_cheap_node parts
-cheap-Or parts = cheap-parts parts ∙ list_all-map (λ part. part) is_cheap_node parts
+  pub cheap-Or : (parts : List Node) → is_cheap_node counts (Or parts) ≡ list_all (is_cheap_node counts) parts
+  cheap-Or parts = cheap-parts parts ∙ list_all-map (λ part. part) (is_cheap_node counts) parts
 
-pub cheap-And : (parts : List Node) → is_cheap_node (And parts) ≡ list_all is_cheap_node parts
-cheap-And parts = cheap-all_parts parts ∙ list_all-map (λ part. part) is_cheap_node parts
+  pub cheap-And : (parts : List Node) → is_cheap_node counts (And parts) ≡ list_all (is_cheap_node counts) parts
+  cheap-And parts = cheap-all_parts parts ∙ list_all-map (λ part. part) (is_cheap_node counts) parts
 
-pub cheap-Not : (part : Box Node Global) → is_cheap_node (Not part) ≡ is_cheap_node part.value
-unfolding is_cheap_node
-cheap-Not part = search (rules, the_lemmas)
+  pub cheap-Not : (part : Box Node Global) → is_cheap_node counts (Not part) ≡ is_cheap_node counts part.value
+  unfolding is_cheap_node
+  cheap-Not part = search (rules, the_lemmas)
 
-pub cheap-Ways : (plan : WaysPlan) → is_cheap_node (Ways plan) ≡ is_cheap_operator plan.operator
-unfolding is_cheap_node
-cheap-Ways plan = search (rules, the_lemmas)
+  pub cheap-Ways : (plan : WaysPlan) → is_cheap_node counts (Ways plan) ≡ is_cheap_operator plan.operator
+  unfolding is_cheap_node
+  cheap-Ways plan = search (rules, the_lemmas)
 
-pub cheap-Counted : (plan : CountedPlan) → is_cheap_node (Counted plan) ≡ false
-unfolding is_cheap_node
-cheap-Counted plan = search (rules, the_lemmas)
+  pub cheap-Counted : (plan : CountedPlan) → is_cheap_node counts (Counted plan) ≡ counts
+  unfolding is_cheap_node
+  cheap-Counted plan = search (rules, the_lemmas)

@@ -66,7 +66,7 @@ module _ {X : Type 0} (f : List X → ℕ) (none : f [] ≡ 0) where
       let all = sum_by-cons f variant variants in
       omega (arith, rest, one, all)
 
-  by_length-sum : (variants : List (List X)) → sum_by of_group (by_length variants) ≡ sum_by f variants
+  pub by_length-sum : (variants : List (List X)) → sum_by of_group (by_length variants) ≡ sum_by f variants
   by_length-sum variants = let all = fold_sum [] variants in omega (arith, all)
 
 -- ---- sums over phrases in order, each once

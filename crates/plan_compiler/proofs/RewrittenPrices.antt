@@ -198,5 +198,5 @@ compiles_given looks lists node form compiled = record {
       let own = compiled.price terms text in
       let less = price_rewritten (lexicon lists) terms text form in
       omega (arith, own, less);
-  cheap = λ h. compiled.cheap (cheap_rewritten (lexicon lists) form h);
+  cheap = λ counts h. compiled.cheap counts (cheap_rewritten counts (lexicon lists) form h);
 }

@@ -127,7 +127,7 @@ module _ (looks : Looks) (lists : NamedLists) (options : Options) (selection : S
       ∙ ap (λ f. sat_under (lexicon lists) options f tokens) (sym (ap form e ∙ form-Not operand))
 
 -- one operand more
-pub say_more : (f : Node → Bool) (g : Selection → Bool) (nodes new : List Node) (parts : List Selection) (i : ℕ) (node : Node) (part : Selection) → i < length parts → part ≡ get_or parts i part
+pub say_more : {N V : Type 0} (f : N → V) (g : Selection → V) (nodes new : List N) (parts : List Selection) (i : ℕ) (node : N) (part : Selection) → i < length parts → part ≡ get_or parts i part
     → new ≡ nodes ++ node ∷ [] → f node ≡ g part → map f nodes ≡ map g (take i parts) → map f new ≡ map g (take (i + 1) parts)
 say_more f g nodes new parts i node part h is pushed same known =
     ap (map f) pushed ∙ map-append f nodes (node ∷ []) ∙ (λ k. known k ++ same k ∷ []) ∙ sym (map-append g (take i parts) (part ∷ []))

@@ -49,15 +49,16 @@ module _ (text other : LookedText) where
   plain_same (Negated' p operand) = without_same operand
   plain_same (Filtered' p operand kind) = plain_same operand
 
-module _ (lists : NamedLists) (options : Options) (first next : ℕ) (operator : OperatorPlan) (selection : Form) (compiled : CompilesTo lists options first next operator selection) (allowed : may_be_filtered selection ≡ true) where
-  abbrev parts : (without_times selection ≡ true) × (has_plain_nots selection ≡ true)
-  parts = and_parts (without_times selection) (has_plain_nots selection) allowed
-
-  pub ways_plain : (text : LookedText) → is_plain (operator_at text operator) ≡ true
-  ways_plain text =
+module _ (lists : NamedLists) (options : Options) (first next : ℕ) (operator : OperatorPlan) (selection : Form) (compiled : CompilesTo lists options first next operator selection) where
+  -- negated operands stand in the operator as in the selection
+  pub nots_plain : has_plain_nots selection ≡ true → (text : LookedText) → is_plain (operator_at text operator) ≡ true
+  nots_plain nots text =
       plain_same text (looked_text everything lists.stems []) operator
       ∙ ap is_plain (compiled.same everything [] refl (everything_serves selection))
-      ∙ plain (lexicon lists) options first [] selection parts.1
+      ∙ plain (lexicon lists) options first [] selection nots
+
+  pub ways_plain : may_be_filtered selection ≡ true → (text : LookedText) → is_plain (operator_at text operator) ≡ true
+  ways_plain allowed text = nots_plain (and_parts (without_times selection) (has_plain_nots selection) allowed).1 text
 
 -- what is compiled, with its choices of phrases united
 module _ (looks : Looks) (lists : NamedLists) (options : Options) (next : ℕ) (operator : OperatorPlan) (plan : WaysPlan) (selection : Form) (compiled : CompilesTo lists options 1 next operator selection) (united : IsUnited operator plan.operator) (positional : is_positional selection ≡ true) (allowed : may_be_filtered selection ≡ true) (outer : are_served looks options ≡ true) (inner : is_served looks selection ≡ true) where
@@ -83,5 +84,8 @@ module _ (looks : Looks) (lists : NamedLists) (options : Options) (next : ℕ) (
         let same = united_cost (compiled_price looks lists.stems terms text) operator plan.operator united in
         let most = compiled.price looks terms text outer inner in
         omega (arith, cost, same, most);
-    cheap = λ h. cheap-Ways plan ∙ united_cheap operator plan.operator united (compiled.words.cheap (positional_cheap (lexicon lists) options selection positional h));
+    cheap = λ counts h.
+        let parts = and_parts (without_times selection) (has_plain_nots selection) allowed in
+        cheap-Ways counts plan
+        ∙ united_cheap operator plan.operator united (compiled.words.cheap (positional_cheap counts (lexicon lists) options selection positional parts.0 h));
   }

@@ -1,4 +1,5 @@
--- Compiled selections that count words, and have single words stand in order or in a window of words, and do nothing else.
+-- Compiled selections that count words, and have single words stand in order or in a window of words, and do nothing else but count words
+-- in windows, sentences or paragraphs where these are allowed as well.
 use Rattle.std.specs.Prelude.{ℕ, ◌-◌, ◌==◌, Bool, true, false, not, ◌&&◌, cond, List, length, Option, Some, None, is_some}
 use Rattle.std.specs.List.{list_all}
 use Rattle.ft_base.specs.declared.filter.Filter.{Filter}
@@ -51,14 +52,14 @@ is_cheap_operator (MildNot' p left right) = false
 is_cheap_operator (Negated' p operand) = false
 is_cheap_operator (Filtered' p operand kind) = is_cheap_filter kind && is_some (last_word operand)
 
--- one level, where it is known of each part
-abbrev pub layer : Node-F Bool → Bool
-layer (Node-F.Words plan) = true
-layer (Node-F.Or parts) = list_all (λ part. part) parts
-layer (Node-F.And parts) = list_all (λ part. part) parts
-layer (Node-F.Not part) = part.value
-layer (Node-F.Ways plan) = is_cheap_operator plan.operator
-layer (Node-F.Counted plan) = false
+-- one level, where it is known of each part, and whether words may be counted
+abbrev pub layer : Bool → Node-F Bool → Bool
+layer counts (Node-F.Words plan) = true
+layer counts (Node-F.Or parts) = list_all (λ part. part) parts
+layer counts (Node-F.And parts) = list_all (λ part. part) parts
+layer counts (Node-F.Not part) = part.value
+layer counts (Node-F.Ways plan) = is_cheap_operator plan.operator
+layer counts (Node-F.Counted plan) = counts
 
-unfoldable pub is_cheap_node : Node → Bool
-is_cheap_node = fold-Node Bool layer
+unfoldable pub is_cheap_node : Bool → Node → Bool
+is_cheap_node counts = fold-Node Bool (layer counts)

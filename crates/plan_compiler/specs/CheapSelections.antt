@@ -1,6 +1,7 @@
 -- Selections of which the moves of cursors are bounded by the price of a test: built by `ftor`, `ftand`, `ftnot` and options from words, with
--- or without `occurs`, and from single words that have to stand in order or in a window of words.
-use Rattle.std.specs.Prelude.{Bool, true, false, not, ◌&&◌, List, [], ◌∷◌, is_some}
+-- or without `occurs`, and from single words that have to stand in order or in a window of words. Where words are counted in windows,
+-- sentences or paragraphs as well, the moves are bounded by twice the price.
+use Rattle.std.specs.Prelude.{Bool, true, false, not, ◌&&◌, ◌||◌, List, [], ◌∷◌, is_some}
 use Rattle.std.specs.List.{list_all}
 use Rattle.ft_base.specs.declared.filter.Filter.{Filter}
 use Rattle.ft_base.specs.declared.filter.Filter.TheVariants as F
@@ -8,8 +9,10 @@ use Rattle.ft_base.specs.declared.options.Options.{Options}
 use Rattle.ft_base.specs.declared.unit.TextUnit.TheVariants as Unit
 use Rattle.ft_base.specs.declared.words.Words.{Words}
 use Rattle.ft_base.specs.Selection.{no_options, Form, Forms, words, or_of, and_of, mild_not, not_of, filtered, with_options, none, more}
+use Rattle.all_matches.specs.Allowed.{without_times}
 use Rattle.all_matches.specs.Meaning.{inside, phrases_by, strings_of}
 use Rattle.all_matches.specs.Variants.{Item, any_word, word, pattern, Lexicon, variants}
+use Rattle.counted_shapes.specs.Accepted.{is_counted}
 
 -- whether any word passes an item, as one that stands in the place of a stop word
 abbrev pub is_any : Item → Bool
@@ -77,21 +80,31 @@ is_cheap_filter F.AtStart = false
 is_cheap_filter F.AtEnd = false
 is_cheap_filter F.EntireContent = false
 
--- whether a selection is cheap under the options that stand round it
-unfoldable mutual
-  pub is_cheap_under : Lexicon → Options → Form → Bool
-  is_cheap_under lexicon options (words value) = true
-  is_cheap_under lexicon options (or_of forms) = are_cheap_under lexicon options forms
-  is_cheap_under lexicon options (and_of forms) = are_cheap_under lexicon options forms
-  is_cheap_under lexicon options (mild_not left right) = false
-  is_cheap_under lexicon options (not_of form) = is_cheap_under lexicon options form
-  is_cheap_under lexicon options (filtered form kind) = is_cheap_filter kind && joins_words lexicon options form
-  is_cheap_under lexicon options (with_options form inner) = is_cheap_under lexicon (inside inner options) form
+-- whether a filter stands round a counted shape in which `occurs` stands, so that words are counted there
+abbrev pub counts_words : Form → Filter → Bool
+counts_words form kind = is_counted form kind && not (without_times form)
 
-  pub are_cheap_under : Lexicon → Options → Forms → Bool
-  are_cheap_under lexicon options none = true
-  are_cheap_under lexicon options (more form rest) = is_cheap_under lexicon options form && are_cheap_under lexicon options rest
+-- whether a selection is cheap under the options that stand round it, and whether it is if words may be counted in it as well
+unfoldable mutual
+  pub is_cheap_under : Bool → Lexicon → Options → Form → Bool
+  is_cheap_under counts lexicon options (words value) = true
+  is_cheap_under counts lexicon options (or_of forms) = are_cheap_under counts lexicon options forms
+  is_cheap_under counts lexicon options (and_of forms) = are_cheap_under counts lexicon options forms
+  is_cheap_under counts lexicon options (mild_not left right) = false
+  is_cheap_under counts lexicon options (not_of form) = is_cheap_under counts lexicon options form
+  is_cheap_under counts lexicon options (filtered form kind) =
+      (is_cheap_filter kind && joins_words lexicon options form) || (counts && counts_words form kind)
+  is_cheap_under counts lexicon options (with_options form inner) = is_cheap_under counts lexicon (inside inner options) form
+
+  pub are_cheap_under : Bool → Lexicon → Options → Forms → Bool
+  are_cheap_under counts lexicon options none = true
+  are_cheap_under counts lexicon options (more form rest) =
+      is_cheap_under counts lexicon options form && are_cheap_under counts lexicon options rest
 
 -- whether a selection is cheap
 abbrev pub is_cheap : Lexicon → Form → Bool
-is_cheap lexicon form = is_cheap_under lexicon no_options form
+is_cheap lexicon form = is_cheap_under false lexicon no_options form
+
+-- whether it is, but for words that are counted in windows, sentences or paragraphs
+abbrev pub is_cheap_or_counted : Lexicon → Form → Bool
+is_cheap_or_counted lexicon form = is_cheap_under true lexicon no_options form

@@ -1,5 +1,5 @@
 -- Selections compiled under the options that stand round them.
-use Rattle.std.specs.Prelude.{◌≡◌, ◌≤◌, ℕ, true, List, map}
+use Rattle.std.specs.Prelude.{◌≡◌, ◌≤◌, ℕ, Bool, true, List, map}
 use Rattle.std.specs.List.{list_all, sum_by}
 use Rattle.ft_base.specs.Selection.{Form}
 use Rattle.ft_base.specs.declared.options.Options.{Options}
@@ -34,7 +34,7 @@ module _ (looks : Looks) (lists : NamedLists) (options : Options) where
     pub says : (tokens : List Token) → truth node (looked_text looks lists.stems tokens) ≡ sat_under (lexicon lists) options selection tokens
     pub price : (terms : List Entry) → (text : List (List ℕ))
         → node_cost (compiled_price looks lists.stems terms text) node ≤ price_under (lexicon lists) options terms text selection
-    pub cheap : is_cheap_under (lexicon lists) options selection ≡ true → is_cheap_node node ≡ true
+    pub cheap : (counts : Bool) → is_cheap_under counts (lexicon lists) options selection ≡ true → is_cheap_node counts node ≡ true
 
   -- the same of lists of both
   pub record CompileAll (nodes : List Node) (parts : List Selection) : Type 0 where
@@ -44,4 +44,5 @@ module _ (looks : Looks) (lists : NamedLists) (options : Options) where
     pub price : (terms : List Entry) → (text : List (List ℕ))
         → sum_by (node_cost (compiled_price looks lists.stems terms text)) nodes
         ≤ sum_by (λ part. price_under (lexicon lists) options terms text (form part)) parts
-    pub cheap : list_all (λ part. is_cheap_under (lexicon lists) options (form part)) parts ≡ true → list_all is_cheap_node nodes ≡ true
+    pub cheap : (counts : Bool) → list_all (λ part. is_cheap_under counts (lexicon lists) options (form part)) parts ≡ true
+        → list_all (is_cheap_node counts) nodes ≡ true

@@ -17,10 +17,12 @@ pub mod CountedPlans
 pub mod CompiledOperators
 pub mod CompiledWords
 pub mod NodeMeaning
+pub mod ShownMeaning
 pub mod NodeCosts
 pub mod PlanMeaning
 pub mod Price
 pub mod PriceExamples
 pub mod CompiledSelection
 pub mod CompiledCounts
+pub mod CompiledShown
 pub mod steps

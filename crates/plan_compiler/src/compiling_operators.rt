@@ -44,7 +44,7 @@ pub(crate) fn compile_ways(
 
 /// The operator of a selection under the options that stand round it, its phrases being numbered from `next` on.
 #[cycle(operator)]
-fn compile_operator(
+pub(crate) fn compile_operator(
     alloc: Global,
     lists: &Lists,
     chosen: &Chosen<'_>,
@@ -114,7 +114,7 @@ fn compile_operands(
 }
 
 /// The operator of words under the options that stand round them.
-fn words_operator(
+pub(crate) fn words_operator(
     alloc: Global,
     lists: &Lists,
     chosen: &Chosen<'_>,

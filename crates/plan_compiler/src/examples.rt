@@ -1,5 +1,5 @@
 //! Prices of small selections, and which are cheap, by computation.
-#![tactic(auto, unfolding(crate::specs::Price::price_under, crate::specs::Price::prices_under, crate::specs::CheapSelections::is_cheap_under, crate::specs::CheapSelections::are_cheap_under))]
+#![tactic(auto, unfolding(crate::specs::Price::price_under, crate::specs::Price::prices_under, crate::specs::CheapSelections::is_cheap_under, crate::specs::CheapSelections::are_cheap_under, all_matches::specs::Allowed::without_times, all_matches::specs::Allowed::each_without_times, counted_shapes::specs::Held::needs_hit, counted_shapes::specs::Held::each_needs_hit, counted_shapes::specs::Held::some_needs_hit, counted_shapes::specs::Shapes::is_bare, counted_shapes::specs::Shapes::is_shape, counted_shapes::specs::Shapes::are_shapes))]
 
 ghost use Rattle.std.specs.Prelude.{◌≡◌, ◌+◌, ◌*◌, ◌∷◌, ◌++◌, [], true, false, codes, replicate, None, Some};
 ghost use Rattle.ft_base.specs.declared.filter.Filter.TheVariants as F;
@@ -12,7 +12,7 @@ ghost use Rattle.ft_base.specs.declared.words.Mode.TheVariants as M;
 ghost use Rattle.ft_base.specs.Selection.{no_options, and_of, filtered, mild_not, none, not_of, with_options, words};
 ghost use Rattle.all_matches.specs.Examples.{quoted, stemmed, stopped, twice_a, two_and, two_or};
 ghost use Rattle.all_matches.specs.Examples.{value, with_thesaurus, word_a, word_b, word_c, word_x};
-ghost use Rattle.plan_compiler.specs.CheapSelections.{is_cheap};
+ghost use Rattle.plan_compiler.specs.CheapSelections.{is_cheap, is_cheap_or_counted};
 ghost use Rattle.plan_compiler.specs.Price.{price_under};
 ghost use Rattle.plan_compiler.specs.PriceExamples.{lexicon, price_of, terms};
 
@@ -117,6 +117,25 @@ pub fn single_words()
         (stopped (S.Sets (record { except = false; source = W.Written (codes "a" ∷ []) } ∷ [])))) ≡ false }
     ensures other_word { is_cheap lexicon (with_options (filtered (two_and word_b word_a) F.Ordered)
         (stopped (S.Sets (record { except = false; source = W.Written (codes "c" ∷ []) } ∷ [])))) ≡ true }
+{}
+
+/// Words that are counted in windows, sentences or paragraphs are not cheap, but may be told apart: with `occurs` under one such filter alone,
+/// and so that one of them has to occur.
+pub fn counted_selections()
+    ensures not_cheap { is_cheap lexicon (filtered twice_a (F.Window 2 U.Words)) ≡ false }
+    ensures window { is_cheap_or_counted lexicon (filtered twice_a (F.Window 2 U.Words)) ≡ true }
+    ensures sentences { is_cheap_or_counted lexicon (filtered twice_a (F.Window 2 U.Sentences)) ≡ true }
+    ensures scope { is_cheap_or_counted lexicon (filtered (two_and twice_a (not_of word_b)) F.SameSentence) ≡ true }
+    ensures phrase { is_cheap_or_counted lexicon (filtered (two_and twice_a (quoted (codes "a b"))) F.SameParagraph) ≡ true }
+    ensures beside { is_cheap_or_counted lexicon (two_or word_b (filtered twice_a F.SameSentence)) ≡ true }
+    ensures under_not { is_cheap_or_counted lexicon (not_of (filtered twice_a F.SameSentence)) ≡ true }
+    ensures options { is_cheap_or_counted lexicon (with_options (filtered twice_a F.SameSentence) (stemmed true)) ≡ true }
+    ensures cheap { is_cheap_or_counted lexicon (filtered (two_and word_a word_b) F.Ordered) ≡ true }
+    ensures ordered { is_cheap_or_counted lexicon (filtered twice_a F.Ordered) ≡ false }
+    ensures choice { is_cheap_or_counted lexicon (filtered (two_or twice_a word_b) F.SameSentence) ≡ false }
+    ensures none_needed { is_cheap_or_counted lexicon (filtered (value M.Any (Some (R.AtMost 2)) (codes "a" ∷ [])) F.SameSentence) ≡ false }
+    ensures nothing_counted { is_cheap_or_counted lexicon (filtered word_a F.SameSentence) ≡ false }
+    ensures mild_not { is_cheap_or_counted lexicon (two_or (mild_not word_a word_b) (filtered twice_a F.SameSentence)) ≡ false }
 {}
 
 /// A thousand times `a`, then `c c`, then a thousand times `b`, in a window of two words or without it: two moves for each `a` and each `b`,

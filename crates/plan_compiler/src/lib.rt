@@ -2,6 +2,8 @@
 //!
 //! Truth values and counts tell whether a text satisfies what stands outside filters and `not in`; under them the ways tell it, in which
 //! hits may be chosen, or counts of hits in one window, sentence or paragraph. No AllMatches are made. `plan_runs` opens a plan over a version of an index.
+//!
+//! Of a plan whose selection can be shown `compile_shown` makes what shows the best hits of a text that satisfies it, from the selection as it was read.
 #![tactic(auto)]
 
 mod chosen;
@@ -9,6 +11,7 @@ mod compiling;
 mod compiling_counts;
 mod compiling_operators;
 mod compiling_phrases;
+mod compiling_shown;
 mod compiling_words;
 mod counted_plan;
 pub mod examples;
@@ -25,6 +28,7 @@ mod plan;
 mod reaching;
 mod reading;
 mod served;
+mod shown_plan;
 mod stops;
 mod text_word;
 mod times;
@@ -32,6 +36,7 @@ mod uniting;
 mod variants;
 mod words_plan;
 
+pub use compiling_shown::compile_shown;
 pub use counted_plan::{CountedPlan, CountedWords};
 pub use fault::CompileFault;
 pub use item_matching::ItemTest;
@@ -43,5 +48,6 @@ pub use operator_plan::{
 };
 pub use phrase_plan::PhrasePlan;
 pub use plan::Plan;
+pub use shown_plan::{FirstWays, ShownNode, ShownPart, ShownPlan};
 pub use text_word::TextWord;
 pub use words_plan::WordsPlan;

@@ -32,6 +32,7 @@ pub struct Plan {
     pub looks: Looks,
     /// The selection, compiled.
     pub root: Node,
+    pub ghost accepted: { IsTrue (is_accepted (form selection)) },
     pub ghost sound: { Compiles looks lists no_options root (form selection) },
 }
 
@@ -68,6 +69,13 @@ impl Plan {
                 Err(CompileFault::Memory)
             }
         }
+    }
+
+    /// The selection with which it was compiled, as it was read.
+    pub fn selection(&self) -> &Selection
+        ensures { form result.now ≡ plan_form self.now }
+    {
+        &self.selection
     }
 }
 
@@ -120,7 +128,7 @@ fn copies_of(
 }
 
 /// The least that has to be looked at of each word of a text.
-fn looks_of(selection: &Selection) -> Looks
+pub(crate) fn looks_of(selection: &Selection) -> Looks
     ensures { IsTrue (is_served result (form selection.now)) }
 {
     let all_forms = !is_served(
