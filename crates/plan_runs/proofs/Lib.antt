@@ -11,11 +11,14 @@ mod SkipLemmas
 mod MissingLemmas
 mod EdgeLemmas
 mod SkipLaw
+mod CountSkipLaw
 mod NeedViews
 mod OpenedWays
+mod OpenedPartLemmas
 mod MergeKinds
 mod MergeLaw
 mod BothCosts
+mod TimesCosts
 mod MergeCosts
 mod OpenedMerges
 mod RisingHits

@@ -5,6 +5,7 @@ use Rattle.std.specs.List.{All, list_all, list_any, sum_by}
 use Rattle.std.proofs.lemmas.Bool.{and_from, and_parts, eq-eqb}
 use Rattle.std.proofs.lemmas.List.{map-append}
 use Rattle.std.proofs.lemmas.List.Elements.{All-append, All-cons, All-nil, All-push}
+use Rattle.std.proofs.lemmas.List.Sums.{sum_by-append, sum_by-cons}
 use Rattle.ft_base.specs.declared.hit.Hit.{Hit}
 use Rattle.ft_base.specs.declared.places.Breaks.{Breaks}
 use Rattle.ft_base.specs.declared.span.Span.{Span}
@@ -35,30 +36,35 @@ use Rattle.place_merges.specs.declared.spot.Spot.{Spot}
 use Rattle.spot_merges.specs.Edges.{spots_of}
 use Rattle.spot_merges.proofs.SpotRanges.{kept_lie, lies_in, lying}
 use Rattle.word_lists.specs.Stems.{Stem}
-use Rattle.plan_compiler.specs.CountedPlans.{counted_at, counted_truth, hits_of_phrases}
+use Rattle.plan_compiler.specs.CountedPlans.{counted_at, counted_truth, hits_of_phrases, items_cost, phrases_cost}
+use Rattle.plan_compiler.specs.NodeCosts.{node_cost}
 use Rattle.plan_compiler.specs.NodeMeaning.{truth}
 use Rattle.plan_compiler.specs.Operators.{LookedText, hits_by_tests, looked_text}
 use Rattle.plan_compiler.specs.declared.counted_plan.CountedPlan.{CountedPlan}
 use Rattle.plan_compiler.specs.declared.counted_plan.CountedWords.{CountedWords}
+use Rattle.plan_compiler.specs.declared.item_matching.ItemTest.{ItemTest}
 use Rattle.plan_compiler.specs.declared.looks.Looks.{Looks}
 use Rattle.plan_compiler.specs.declared.node.Node.{Node}
 use Rattle.plan_compiler.specs.declared.node.Node as N
 use Rattle.plan_compiler.specs.declared.operator_plan.PhraseTests.{PhraseTests}
 use Rattle.plan_compiler.proofs.GroupLemmas.{by_length-map, map_group}
-use Rattle.plan_compiler.proofs.NodeViews.{cheap-Counted, truth-Counted}
+use Rattle.plan_compiler.proofs.NodeViews.{cheap-Counted, cost-Counted, truth-Counted}
+use Rattle.plan_compiler.proofs.SumLemmas.{sum_over_le}
 use Rattle.plan_kinds.specs.steps.RisingUnits.{started_rises}
 use Rattle.plan_compiler.specs.CheapPlans.{is_cheap_node}
 use Rattle.plan_runs.specs.steps.AskedSpans.{AskedSpan, IsAsked, tokens_in}
-use Rattle.plan_runs.specs.steps.Counts.{AreCounts, CountsShape, TermCounts, TermGroups, counts_say, field_unit, opened_count, opened_counts, opened_groups, terms_counted, unit_number}
-use Rattle.plan_runs.specs.steps.OpenedItems.{opened_variant}
+use Rattle.plan_runs.specs.steps.Counts.{AreCounts, CountsShape, TermCounts, TermGroups, counts_say, field_unit, item_cost, opened_count, opened_counts, opened_groups, terms_counted, unit_number}
+use Rattle.plan_runs.specs.steps.OpenedItems.{opened_item, opened_variant}
+use Rattle.plan_runs.specs.steps.CheapShapes.{is_cheap_shape}
 use Rattle.plan_runs.specs.steps.OpenedWords.{IsOpened}
 use Rattle.plan_runs.specs.steps.RunCosts.{run_cost}
 use Rattle.plan_runs.specs.steps.RunShapes.{Shape, by_counts, counts_shape, shape}
 use Rattle.plan_runs.specs.steps.RunTruth.{IsSound, run_truth}
 use Rattle.plan_runs.specs.declared.run_counts.RunCounts.{RunCounts}
 use Rattle.plan_runs.specs.declared.run_node.RunNode as R
-use Rattle.plan_runs.proofs.OpenedLemmas.{variants_there}
+use Rattle.plan_runs.proofs.OpenedLemmas.{group_cheap, variants_there}
 use Rattle.plan_runs.proofs.OpenedWays.{phrase_law}
+use Rattle.plan_runs.proofs.PutVariants.{group_sum, groups_cost}
 use Rattle.plan_runs.proofs.RunViews.{shape-Counted}
 
 -- ---- hits that are told so, and more of them behind
@@ -245,9 +251,26 @@ module _ (looks : Looks) (stems : List Stem) (version : List Numbered) where
         ∙ ap (λ (hits : List Hit). length (filter test hits)) (phrases_flat item.phrases) in
         λ i. nat_le item.least (count i) && is_at_most item.most (count i)
 
+  -- ---- what they cost, where no word costs more than its test
+
+  module _ (word_cost : WordTerms → ℕ) (test_cost : ItemTest → ℕ) (most : (test : ItemTest) → word_cost (opened_item looks stems version test) ≤ test_cost test) where
+    phrases_paid : (phrases : List PhraseTests) → sum_by (group_sum word_cost) (flat_map (opened_groups looks stems version) phrases) ≤ phrases_cost test_cost phrases
+    phrases_paid [] = omega arith
+    phrases_paid (found ∷ rest) =
+        let groups = groups_cost word_cost (map (opened_variant looks stems version) found.variants) in
+        let own = group_cheap looks stems version word_cost test_cost most found.variants in
+        let both = sum_by-append (group_sum word_cost) (opened_groups looks stems version found) (flat_map (opened_groups looks stems version) rest) in
+        let all = sum_by-cons (λ (one : PhraseTests). sum_by (sum_by test_cost) one.variants) found rest in
+        let others = phrases_paid rest in
+        omega (arith, groups, own, both, all, others)
+
+    items_paid : (items : List CountedWords) → sum_by (item_cost word_cost) (map (opened_count looks stems version) items) ≤ items_cost test_cost items
+    items_paid items =
+        sum_over_le (item_cost word_cost) (λ (item : CountedWords). phrases_cost test_cost item.phrases) (opened_count looks stems version) (λ item. phrases_paid item.phrases) items
+
   pub counts_opened : (run : RunCounts) (plan : CountedPlan) (node : Node) → node ≡ N.Counted plan → counts_shape run ≡ opened_counts looks stems version plan
       → IsOpened looks stems version (shape (R.Counted run)) node
-  unfolding run_truth IsSound run_cost
+  unfolding run_truth IsSound run_cost is_cheap_shape
   counts_opened run plan node is opened =
       let own : shape (R.Counted run) ≡ by_counts (opened_counts looks stems version plan) = shape-Counted run ∙ ap by_counts opened in
       subst (λ (s : Shape). IsOpened looks stems version s node) (sym own) (record {
@@ -266,6 +289,9 @@ module _ (looks : Looks) (stems : List Stem) (version : List Numbered) where
             (list_any-map (λ (item : Counted). nat_lt 0 item.least) (by_phrases asked there plan.field) plan.items ∙ plan.asks) plan.field
             ∙ sym (fit_told (counted_at whole) (by_phrases asked there plan.field) (before (field_unit plan.field) (breaks_of (document_at asked.doc version)) asked.span 0) plan.field (item_told asked there plan.field) plan.items)
             ∙ sym (ap (λ (n : Node). truth n whole) is ∙ truth-Counted plan whole);
-        cost = λ word_cost test_cost fair most. omega arith;
-        cheap = λ h. absurd (true≢false (sym h ∙ ap is_cheap_node is ∙ cheap-Counted plan));
+        cost = λ word_cost test_cost fair most.
+            let paid = items_paid word_cost test_cost most plan.items in
+            let whole = ap (node_cost test_cost) is ∙ cost-Counted test_cost plan in
+            omega (arith, paid, whole);
+        cheap = λ counts h. sym (ap (is_cheap_node counts) is ∙ cheap-Counted counts plan) ∙ h;
       })

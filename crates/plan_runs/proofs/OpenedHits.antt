@@ -174,5 +174,5 @@ module _ (looks : Looks) (stems : List Stem) (version : List Numbered) where
             ∙ (λ i. satisfied (matches_of (own_text looks stems version asked there i) (aims_law looks stems version asked there plan.operator i)))
             ∙ sym (truth-Ways plan text);
         cost = λ word_cost test_cost fair most. omega arith;
-        cheap = λ h. absurd (true≢false (sym h ∙ cheap-Ways plan ∙ unmerged plan.operator none));
+        cheap = λ counts h. absurd (true≢false (sym h ∙ cheap-Ways counts plan ∙ unmerged plan.operator none));
       })

@@ -181,7 +181,7 @@ module _ (looks : Looks) (stems : List Stem) (version : List Numbered) where
             let cheap = words_cheap word_cost test_cost most plan in
             let whole = ap (node_cost test_cost) is ∙ cost-Words test_cost plan in
             omega (arith, cheap, whole);
-        cheap = λ h. refl;
+        cheap = λ counts h. refl;
       })
 
   are_sound : (runs : List Shape) → All (IsSound version) runs → AreSound version (shapes_of runs)
@@ -215,10 +215,10 @@ module _ (looks : Looks) (stems : List Stem) (version : List Numbered) where
             ∙ sym (ap (λ (n : Node). truth n (looked_text looks stems (tokens_in version asked))) is ∙ truth-Or parts (looked_text looks stems (tokens_in version asked)));
         cost = λ word_cost test_cost fair most.
             let cheap = opened.cost word_cost test_cost fair most in
-            let all = costs_are word_cost (map shape runs.items) in
+            let all = costs_are word_cost 1 (map shape runs.items) in
             let whole = ap (node_cost test_cost) is ∙ cost-Or test_cost parts in
             omega (arith, cheap, all, whole);
-        cheap = λ h. cheap_are (map shape runs.items) ∙ opened.cheap (sym (ap is_cheap_node is ∙ cheap-Or parts) ∙ h);
+        cheap = λ counts h. cheap_are counts (map shape runs.items) ∙ opened.cheap counts (sym (ap (is_cheap_node counts) is ∙ cheap-Or counts parts) ∙ h);
       })
 
   pub and_opened : (runs : Vec RunNode Global) (parts : List Node) (node : Node) → node ≡ N.And parts → AreOpened looks stems version (map shape runs.items) parts → IsOpened looks stems version (shape (R.And runs)) node
@@ -233,10 +233,10 @@ module _ (looks : Looks) (stems : List Stem) (version : List Numbered) where
             ∙ sym (ap (λ (n : Node). truth n (looked_text looks stems (tokens_in version asked))) is ∙ truth-And parts (looked_text looks stems (tokens_in version asked)));
         cost = λ word_cost test_cost fair most.
             let cheap = opened.cost word_cost test_cost fair most in
-            let all = costs_are word_cost (map shape runs.items) in
+            let all = costs_are word_cost 1 (map shape runs.items) in
             let whole = ap (node_cost test_cost) is ∙ cost-And test_cost parts in
             omega (arith, cheap, all, whole);
-        cheap = λ h. cheap_are (map shape runs.items) ∙ opened.cheap (sym (ap is_cheap_node is ∙ cheap-And parts) ∙ h);
+        cheap = λ counts h. cheap_are counts (map shape runs.items) ∙ opened.cheap counts (sym (ap (is_cheap_node counts) is ∙ cheap-And counts parts) ∙ h);
       })
 
   pub not_opened : (run : Box RunNode Global) (part : Box Node Global) (node : Node) → node ≡ N.Not part → IsOpened looks stems version (shape run.value) part.value → IsOpened looks stems version (shape (R.Not run)) node
@@ -251,7 +251,7 @@ module _ (looks : Looks) (stems : List Stem) (version : List Numbered) where
             let cheap = opened.cost word_cost test_cost fair most in
             let whole = ap (node_cost test_cost) is ∙ cost-Not test_cost part in
             omega (arith, cheap, whole);
-        cheap = λ h. opened.cheap (sym (ap is_cheap_node is ∙ cheap-Not part) ∙ h);
+        cheap = λ counts h. opened.cheap counts (sym (ap (is_cheap_node counts) is ∙ cheap-Not counts part) ∙ h);
       })
 
   -- one part more
@@ -268,18 +268,20 @@ module _ (looks : Looks) (stems : List Stem) (version : List Numbered) where
             ∙ ap (λ (n : Node). map (λ (m : Node). truth m (looked_text looks stems (tokens_in version asked))) (take i nodes) ++ truth n (looked_text looks stems (tokens_in version asked)) ∷ []) is
             ∙ sym (map_more (λ (m : Node). truth m (looked_text looks stems (tokens_in version asked))) nodes i node h);
         cost = λ word_cost test_cost fair most.
-            let sum = ap (sum_by (run_cost word_cost)) shapes ∙ sum_by_push (run_cost word_cost) (map shape before) (shape run) in
+            let sum = ap (sum_by (run_cost word_cost 1)) shapes ∙ sum_by_push (run_cost word_cost 1) (map shape before) (shape run) in
             let more = sum_by_more (node_cost test_cost) nodes i node h in
             let own = ap (node_cost test_cost) is in
             let first = all.cost word_cost test_cost fair most in
             let then = opened.cost word_cost test_cost fair most in
             omega (arith, sum, more, own, first, then);
-        cheap = λ all_cheap.
+        cheap = λ counts all_cheap.
+            let cheap_node = is_cheap_node counts in
+            let cheap_shape = is_cheap_shape counts in
             let taken : take (i + 1) nodes ≡ take i nodes ++ node ∷ [] = take_more nodes i node h ∙ ap (λ (n : Node). take i nodes ++ n ∷ []) (sym is) in
-            let sides = and_parts (list_all is_cheap_node (take i nodes)) (list_all is_cheap_node (node ∷ []))
-            (sym (list_all-append is_cheap_node (take i nodes) (node ∷ [])) ∙ ap (list_all is_cheap_node) (sym taken) ∙ all_cheap) in
-            ap (list_all is_cheap_shape) shapes
-            ∙ list_all-append is_cheap_shape (map shape before) (shape run ∷ [])
-            ∙ and_from (list_all is_cheap_shape (map shape before)) (list_all is_cheap_shape (shape run ∷ [])) (all.cheap sides.0)
-            (λ j. opened.cheap (and_parts (is_cheap_node node) true sides.1).0 j && true);
+            let sides = and_parts (list_all cheap_node (take i nodes)) (list_all cheap_node (node ∷ []))
+            (sym (list_all-append cheap_node (take i nodes) (node ∷ [])) ∙ ap (list_all cheap_node) (sym taken) ∙ all_cheap) in
+            ap (list_all cheap_shape) shapes
+            ∙ list_all-append cheap_shape (map shape before) (shape run ∷ [])
+            ∙ and_from (list_all cheap_shape (map shape before)) (list_all cheap_shape (shape run ∷ [])) (all.cheap counts sides.0)
+            (λ j. opened.cheap counts (and_parts (cheap_node node) true sides.1).0 j && true);
       }

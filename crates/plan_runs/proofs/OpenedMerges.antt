@@ -78,5 +78,5 @@ module _ (looks : Looks) (stems : List Stem) (version : List Numbered) where
             let filtered = filtered_law (operator_cost test_cost) (λ cost filter. cost) (λ p own filter. refl) plan.operator _ merge.is in
             let whole = cost-Ways test_cost plan in
             omega (arith, cheap, sum, filtered, whole);
-        cheap = λ h. refl;
+        cheap = λ counts h. refl;
       })

@@ -122,7 +122,7 @@ module _ (looks : Looks) (stems : List Stem) (version : List Numbered) where
         let end : asked.span.to - (asked.span.from - 1) ≡ suc (length part) = omega (arith, first, order, long) in
         λ i. record { from = start i; to = end i }
 
-  may_law : (doc : ℕ) (span : Span) → has_document doc version ≡ true → (plan : OperatorPlan) → (opened_aims looks stems version plan).may doc span ≡ true
+  pub may_law : (doc : ℕ) (span : Span) → has_document doc version ≡ true → (plan : OperatorPlan) → (opened_aims looks stems version plan).may doc span ≡ true
   unfolding opened_aims
   may_law doc span there (Phrase found) = there
   may_law doc span there (Choice' p left right) = λ i. may_law doc span there left i && may_law doc span there right i
@@ -151,5 +151,5 @@ module _ (looks : Looks) (stems : List Stem) (version : List Numbered) where
             (λ i. satisfied (matches_of (own_text asked there i) (aims_law asked there plan.operator i)))
             ∙ sym (ap (λ (n : Node). truth n whole) is ∙ truth-Ways plan whole);
         cost = λ word_cost test_cost fair most. omega arith;
-        cheap = λ h. absurd (true≢false (sym h ∙ ap is_cheap_node is ∙ cheap-Ways plan ∙ unmerged plan.operator none));
+        cheap = λ counts h. absurd (true≢false (sym h ∙ ap (is_cheap_node counts) is ∙ cheap-Ways counts plan ∙ unmerged plan.operator none));
       })

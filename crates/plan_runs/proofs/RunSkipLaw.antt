@@ -27,9 +27,9 @@ use Rattle.plan_runs.specs.steps.ChosenTerms.{is_among, numbers_of}
 use Rattle.plan_runs.specs.steps.AskedSpans.{AskedSpan, words_in}
 use Rattle.plan_kinds.specs.steps.MergeKinds.{stand_as}
 use Rattle.plan_runs.specs.steps.Merges.{MergeShape, merge_says, terms_places}
-use Rattle.plan_runs.specs.steps.RunSkips.{merge_skip, phrase_skip, placed_skip, skip, skips, terms_skip, words_skip}
+use Rattle.plan_runs.specs.steps.RunSkips.{counts_skip, merge_skip, phrase_skip, placed_skip, skip, skips, terms_skip, words_skip}
 use Rattle.index_phrases.specs.steps.Aiming.{AreThere, variant_words}
-use Rattle.plan_runs.specs.steps.RunShapes.{GroupShape, WordsShape, Shape, Shapes, words, any_of, all_of, not_of, by_ways, by_near, by_hits, by_merge, none, more, group_shape, merge_shape, phrase_shape, placed_shape, shape, shapes_of, words_shape, by_spots, by_counts, PlacedShape, at_edge, outside}
+use Rattle.plan_runs.specs.steps.RunShapes.{GroupShape, WordsShape, Shape, Shapes, counts_shape, words, any_of, all_of, not_of, by_ways, by_near, by_hits, by_merge, none, more, group_shape, merge_shape, phrase_shape, placed_shape, shape, shapes_of, words_shape, by_spots, by_counts, PlacedShape, at_edge, outside}
 use Rattle.plan_runs.specs.steps.Skips.{IsWithin, ends_before, latest, skip_of, variant_skip, variants_skip, vectors_skip}
 use Rattle.plan_runs.specs.steps.RunTruth.{ArePlaced, AreSound, IsGroup, IsSound, IsWords, all_true, group_count, is_wanted, phrase_spots, phrase_total, placed_say, run_truth, some_true, words_say}
 use Rattle.plan_runs.specs.declared.run_node.RunGroup.{RunGroup}
@@ -50,6 +50,7 @@ use Rattle.index_phrases.specs.declared.word_terms.WordTerms.TheVariants as Term
 use Rattle.spot_merges.specs.Outside.{stands_outside}
 use Rattle.spot_merges.specs.declared.outside.Outside.TheVariants.{Cover, Window}
 use Rattle.spot_merges.specs.Edges.{is_at}
+use Rattle.plan_runs.proofs.CountSkipLaw.{no_counts}
 use Rattle.plan_runs.proofs.SkipLaw.{no_phrase_spots}
 use Rattle.plan_runs.proofs.SkipLemmas.{are_missing, ends_all, ends_any, ends_latest, ends_soonest, ends_variants, is_missing, none_there, nothing_before}
 use Rattle.plan_runs.proofs.RunViews.{shape-Words, shape-Or, shape-And, shape-Not, shape-Ways, shape-Near, shape-Hits, shape-Merge, shape-Placed, shape-Counted}
@@ -280,7 +281,7 @@ module _ (version : List Numbered) (doc : ℕ) (part span : Span) (within : IsWi
     skip_law (by_hits run) sound h = sound.skipped doc part span within h
     skip_law (by_merge merge) sound h = no_merge merge h
     skip_law (by_spots run) sound h = no_placed run sound h
-    skip_law (by_counts run) sound h = absurd (true≢false (sym h ∙ nothing_before span.to))
+    skip_law (by_counts run) sound h = no_counts version doc part span within run sound h
 
     all_law : (parts : Shapes) → AreSound version parts → list_all (ends_before span.to) (skips doc part parts) ≡ true → some_true version parts asked ≡ false
     all_law none sound h = refl
@@ -343,7 +344,7 @@ module _ (doc : ℕ) (part : Span) where
   unfolding skip
   skip-Placed run = ap (skip doc part) (shape-Placed run)
 
-  pub skip-Counted : (run : RunCounts) → skip doc part (shape (R.Counted run)) ≡ Some 0
+  pub skip-Counted : (run : RunCounts) → skip doc part (shape (R.Counted run)) ≡ counts_skip doc part (counts_shape run)
   unfolding skip
   skip-Counted run = ap (skip doc part) (shape-Counted run)
 

@@ -1,5 +1,5 @@
 -- What the kinds of a run's tree say, what they cost, and when they fit.
-use Rattle.std.proofs.Common.{◌≡◌, refl, sym, ap, subst, ◌∙◌, ℕ, ◌+◌, ◌<◌, ◌≤◌, true, false, not, ◌&&◌, ◌||◌, List, [], ◌∷◌, map, length, get_or, drop, take, suc, zero, arith, Box, Global}
+use Rattle.std.proofs.Common.{◌≡◌, refl, sym, ap, subst, ◌∙◌, ℕ, ◌+◌, ◌*◌, ◌<◌, ◌≤◌, Bool, true, false, not, ◌&&◌, ◌||◌, List, [], ◌∷◌, map, length, get_or, drop, take, suc, zero, arith, Box, Global}
 use Rattle.std.specs.declared.vec.Vec.{Vec}
 use Rattle.std.specs.List.{list_all, sum_by}
 use Rattle.std.proofs.lemmas.Bool.{and_parts}
@@ -11,7 +11,7 @@ use Rattle.plan_runs.specs.steps.RunCosts.{run_cost, run_costs, words_cost}
 use Rattle.plan_runs.specs.steps.RunShapes.{hits_shape, near_shape, Shape, Shapes, shape, shapes_of, words, any_of, all_of, not_of, by_ways, by_near, by_hits, by_merge, none, more, merge_shape, words_shape, ways_shape, by_spots, placed_shape, by_counts, counts_shape}
 use Rattle.plan_runs.specs.steps.AskedSpans.{AskedSpan, words_in}
 use Rattle.plan_runs.specs.steps.Passes.{AreHits, hits_say}
-use Rattle.plan_runs.specs.steps.Counts.{AreCounts, counts_say}
+use Rattle.plan_runs.specs.steps.Counts.{AreCounts, counts_cost, counts_say}
 use Rattle.plan_runs.specs.steps.Merges.{IsMerge, merge_cost, merge_says}
 use Rattle.plan_runs.specs.steps.NearRuns.{AreNear}
 use Rattle.plan_runs.specs.steps.Skips.{skip_of}
@@ -222,78 +222,78 @@ module _ (node : RunNode) where
 
 -- ---- what they cost
 
-module _ (cost : WordTerms → ℕ) (node : RunNode) where
-  pub cost-Words : (run : RunWords) → node ≡ R.Words run → run_cost cost (shape node) ≡ words_cost cost (words_shape run)
+module _ (cost : WordTerms → ℕ) (times : ℕ) (node : RunNode) where
+  pub cost-Words : (run : RunWords) → node ≡ R.Words run → run_cost cost times (shape node) ≡ words_cost cost (words_shape run)
   unfolding run_cost
-  cost-Words run is = ap (run_cost cost) (ap shape is ∙ shape-Words run)
+  cost-Words run is = ap (run_cost cost times) (ap shape is ∙ shape-Words run)
 
-  pub cost-Or : (parts : Vec RunNode Global) → node ≡ R.Or parts → run_cost cost (shape node) ≡ run_costs cost (shapes_of (map shape parts.items))
+  pub cost-Or : (parts : Vec RunNode Global) → node ≡ R.Or parts → run_cost cost times (shape node) ≡ run_costs cost times (shapes_of (map shape parts.items))
   unfolding run_cost
-  cost-Or parts is = ap (run_cost cost) (ap shape is ∙ shape-Or parts)
+  cost-Or parts is = ap (run_cost cost times) (ap shape is ∙ shape-Or parts)
 
-  pub cost-And : (parts : Vec RunNode Global) → node ≡ R.And parts → run_cost cost (shape node) ≡ run_costs cost (shapes_of (map shape parts.items))
+  pub cost-And : (parts : Vec RunNode Global) → node ≡ R.And parts → run_cost cost times (shape node) ≡ run_costs cost times (shapes_of (map shape parts.items))
   unfolding run_cost
-  cost-And parts is = ap (run_cost cost) (ap shape is ∙ shape-And parts)
+  cost-And parts is = ap (run_cost cost times) (ap shape is ∙ shape-And parts)
 
-  pub cost-Not : (part : Box RunNode Global) → node ≡ R.Not part → run_cost cost (shape node) ≡ run_cost cost (shape part.value)
+  pub cost-Not : (part : Box RunNode Global) → node ≡ R.Not part → run_cost cost times (shape node) ≡ run_cost cost times (shape part.value)
   unfolding run_cost
-  cost-Not part is = ap (run_cost cost) (ap shape is ∙ shape-Not part)
+  cost-Not part is = ap (run_cost cost times) (ap shape is ∙ shape-Not part)
 
-  pub cost-Merge : (run : RunMerge) → node ≡ R.Merge run → run_cost cost (shape node) ≡ merge_cost cost (merge_shape run)
+  pub cost-Merge : (run : RunMerge) → node ≡ R.Merge run → run_cost cost times (shape node) ≡ merge_cost cost (merge_shape run)
   unfolding run_cost
-  cost-Merge run is = ap (run_cost cost) (ap shape is ∙ shape-Merge run)
+  cost-Merge run is = ap (run_cost cost times) (ap shape is ∙ shape-Merge run)
 
-pub costs_are : (cost : WordTerms → ℕ) (shapes : List Shape) → run_costs cost (shapes_of shapes) ≡ sum_by (run_cost cost) shapes
+  pub cost-Counted : (run : RunCounts) → node ≡ R.Counted run → run_cost cost times (shape node) ≡ times * counts_cost cost (counts_shape run)
+  unfolding run_cost
+  cost-Counted run is = ap (run_cost cost times) (ap shape is ∙ shape-Counted run)
+
+pub costs_are : (cost : WordTerms → ℕ) (times : ℕ) (shapes : List Shape) → run_costs cost times (shapes_of shapes) ≡ sum_by (run_cost cost times) shapes
 unfolding run_costs
-costs_are cost [] = refl
-costs_are cost (first ∷ rest) = ap (λ n. run_cost cost first + n) (costs_are cost rest) ∙ sym (sum_by-cons (run_cost cost) first rest)
+costs_are cost times [] = refl
+costs_are cost times (first ∷ rest) = ap (λ n. run_cost cost times first + n) (costs_are cost times rest) ∙ sym (sum_by-cons (run_cost cost times) first rest)
 
 -- the parts so far
-pub costs_so_far : (cost : WordTerms → ℕ) (shapes : List Shape) (i start end : ℕ) → end ≤ start + sum_by (run_cost cost) (take i shapes) → end ≤ start + run_costs cost (shapes_of shapes)
-costs_so_far cost shapes i start end h = omega (arith, so_far (run_cost cost) shapes i start end h, costs_are cost shapes)
+pub costs_so_far : (cost : WordTerms → ℕ) (times : ℕ) (shapes : List Shape) (i start end : ℕ) → end ≤ start + sum_by (run_cost cost times) (take i shapes) → end ≤ start + run_costs cost times (shapes_of shapes)
+costs_so_far cost times shapes i start end h = omega (arith, so_far (run_cost cost times) shapes i start end h, costs_are cost times shapes)
 
 -- ---- which are cheap
 
-module _ (node : RunNode) where
-  pub cheap-Or : (parts : Vec RunNode Global) → node ≡ R.Or parts → are_cheap_shapes (shapes_of (map shape parts.items)) ≡ is_cheap_shape (shape node)
+module _ (counts : Bool) (node : RunNode) where
+  pub cheap-Or : (parts : Vec RunNode Global) → node ≡ R.Or parts → are_cheap_shapes counts (shapes_of (map shape parts.items)) ≡ is_cheap_shape counts (shape node)
   unfolding is_cheap_shape
-  cheap-Or parts is = sym (ap is_cheap_shape (ap shape is ∙ shape-Or parts))
+  cheap-Or parts is = sym (ap (is_cheap_shape counts) (ap shape is ∙ shape-Or parts))
 
-  pub cheap-And : (parts : Vec RunNode Global) → node ≡ R.And parts → are_cheap_shapes (shapes_of (map shape parts.items)) ≡ is_cheap_shape (shape node)
+  pub cheap-And : (parts : Vec RunNode Global) → node ≡ R.And parts → are_cheap_shapes counts (shapes_of (map shape parts.items)) ≡ is_cheap_shape counts (shape node)
   unfolding is_cheap_shape
-  cheap-And parts is = sym (ap is_cheap_shape (ap shape is ∙ shape-And parts))
+  cheap-And parts is = sym (ap (is_cheap_shape counts) (ap shape is ∙ shape-And parts))
 
-  pub cheap-Not : (part : Box RunNode Global) → node ≡ R.Not part → is_cheap_shape (shape part.value) ≡ is_cheap_shape (shape node)
+  pub cheap-Not : (part : Box RunNode Global) → node ≡ R.Not part → is_cheap_shape counts (shape part.value) ≡ is_cheap_shape counts (shape node)
   unfolding is_cheap_shape
-  cheap-Not part is = sym (ap is_cheap_shape (ap shape is ∙ shape-Not part))
+  cheap-Not part is = sym (ap (is_cheap_shape counts) (ap shape is ∙ shape-Not part))
 
-  pub cheap-Ways : (run : Box RunWays Global) → node ≡ R.Ways run → is_cheap_shape (shape node) ≡ false
+  pub cheap-Ways : (run : Box RunWays Global) → node ≡ R.Ways run → is_cheap_shape counts (shape node) ≡ false
   unfolding is_cheap_shape
-  cheap-Ways run is = ap is_cheap_shape (ap shape is ∙ shape-Ways run)
+  cheap-Ways run is = ap (is_cheap_shape counts) (ap shape is ∙ shape-Ways run)
 
-  pub cheap-Near : (run : Box RunNear Global) → node ≡ R.Near run → is_cheap_shape (shape node) ≡ false
+  pub cheap-Near : (run : Box RunNear Global) → node ≡ R.Near run → is_cheap_shape counts (shape node) ≡ false
   unfolding is_cheap_shape
-  cheap-Near run is = ap is_cheap_shape (ap shape is ∙ shape-Near run)
+  cheap-Near run is = ap (is_cheap_shape counts) (ap shape is ∙ shape-Near run)
 
-  pub cheap-Hits : (run : Box RunHits Global) → node ≡ R.Hits run → is_cheap_shape (shape node) ≡ false
+  pub cheap-Hits : (run : Box RunHits Global) → node ≡ R.Hits run → is_cheap_shape counts (shape node) ≡ false
   unfolding is_cheap_shape
-  cheap-Hits run is = ap is_cheap_shape (ap shape is ∙ shape-Hits run)
+  cheap-Hits run is = ap (is_cheap_shape counts) (ap shape is ∙ shape-Hits run)
 
-  pub cheap-Placed : (run : RunPlaced) → node ≡ R.Placed run → is_cheap_shape (shape node) ≡ false
+  pub cheap-Placed : (run : RunPlaced) → node ≡ R.Placed run → is_cheap_shape counts (shape node) ≡ false
   unfolding is_cheap_shape
-  cheap-Placed run is = ap is_cheap_shape (ap shape is ∙ shape-Placed run)
+  cheap-Placed run is = ap (is_cheap_shape counts) (ap shape is ∙ shape-Placed run)
 
-  pub cheap-Counted : (run : RunCounts) → node ≡ R.Counted run → is_cheap_shape (shape node) ≡ false
-  unfolding is_cheap_shape
-  cheap-Counted run is = ap is_cheap_shape (ap shape is ∙ shape-Counted run)
-
-pub cheap_are : (shapes : List Shape) → are_cheap_shapes (shapes_of shapes) ≡ list_all is_cheap_shape shapes
+pub cheap_are : (counts : Bool) (shapes : List Shape) → are_cheap_shapes counts (shapes_of shapes) ≡ list_all (is_cheap_shape counts) shapes
 unfolding are_cheap_shapes
-cheap_are [] = refl
-cheap_are (first ∷ rest) = ap (λ b. is_cheap_shape first && b) (cheap_are rest)
+cheap_are counts [] = refl
+cheap_are counts (first ∷ rest) = ap (λ b. is_cheap_shape counts first && b) (cheap_are counts rest)
 
-pub each_cheap : (shapes : List Shape) → are_cheap_shapes (shapes_of shapes) ≡ true → (k : ℕ) (d : Shape) → k < length shapes → is_cheap_shape (get_or shapes k d) ≡ true
+pub each_cheap : (counts : Bool) (shapes : List Shape) → are_cheap_shapes counts (shapes_of shapes) ≡ true → (k : ℕ) (d : Shape) → k < length shapes → is_cheap_shape counts (get_or shapes k d) ≡ true
 unfolding are_cheap_shapes
-each_cheap [] h k d lt = absurd (omega arith)
-each_cheap (first ∷ rest) h zero d lt = (and_parts (is_cheap_shape first) (are_cheap_shapes (shapes_of rest)) h).0
-each_cheap (first ∷ rest) h (suc k) d lt = each_cheap rest (and_parts (is_cheap_shape first) (are_cheap_shapes (shapes_of rest)) h).1 k d (omega arith)
+each_cheap counts [] h k d lt = absurd (omega arith)
+each_cheap counts (first ∷ rest) h zero d lt = (and_parts (is_cheap_shape counts first) (are_cheap_shapes counts (shapes_of rest)) h).0
+each_cheap counts (first ∷ rest) h (suc k) d lt = each_cheap counts rest (and_parts (is_cheap_shape counts first) (are_cheap_shapes counts (shapes_of rest)) h).1 k d (omega arith)

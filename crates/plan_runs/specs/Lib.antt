@@ -1,4 +1,5 @@
 pub mod RunMeaning
 pub mod Judgement
 pub mod RunPrice
+pub mod OpenedParts
 pub mod steps

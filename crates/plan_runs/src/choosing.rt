@@ -17,11 +17,11 @@ use std::alloc::Global;
 
 /// The version over which a plan is opened, and how the plan looks at words.
 #[derive(Clone, Copy)]
-pub(crate) struct Opening<'a> {
-    pub(crate) alloc: Global,
-    pub(crate) version: &'a Version,
-    pub(crate) looks: Looks,
-    pub(crate) lists: &'a Lists,
+pub struct Opening<'a> {
+    pub alloc: Global,
+    pub version: &'a Version,
+    pub looks: Looks,
+    pub lists: &'a Lists,
 }
 
 /// The numbers of the terms whose words pass, ascending. Where the words that pass have one key, or one stem, only the terms of such

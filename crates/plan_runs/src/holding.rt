@@ -20,7 +20,7 @@ use ft_base::Steps;
 use std::sync::ledger::Ledger;
 
 /// Whether the words of the span satisfy the selection. Where it counts words and merges single words alone, the moves are no more than
-/// these cost.
+/// these cost, those of words that are counted in windows, sentences or paragraphs twice.
 #[cycle(holding)]
 pub(crate) fn node_holds<'v, L: Ledger>(
     place: &AskedPlace<'v>,
@@ -30,7 +30,7 @@ pub(crate) fn node_holds<'v, L: Ledger>(
     requires { IsSound place.now.version.now (shape node.old) }
     ensures says { result ≡ run_truth place.now.version.now (shape node.old) (asked_at place.now) }
     ensures same { shape node.new ≡ shape node.old }
-    ensures price { is_cheap_shape (shape node.old) ≡ true → moves.new ≤ moves.old + run_cost (moves_for place.now) (shape node.old) }
+    ensures price { is_cheap_shape true (shape node.old) ≡ true → moves.new ≤ moves.old + run_cost (moves_for place.now) 2 (shape node.old) }
     ensures grown { moves.old ≤ moves.new }
 {
     match node {
@@ -56,8 +56,8 @@ fn part_holds<'v, L: Ledger>(
     requires { IsSound place.now.version.now (shape part.old.value) }
     ensures says { result ≡ run_truth place.now.version.now (shape part.old.value) (asked_at place.now) }
     ensures same { shape part.new.value ≡ shape part.old.value }
-    ensures price { is_cheap_shape (shape part.old.value) ≡ true
-        → moves.new ≤ moves.old + run_cost (moves_for place.now) (shape part.old.value) }
+    ensures price { is_cheap_shape true (shape part.old.value) ≡ true
+        → moves.new ≤ moves.old + run_cost (moves_for place.now) 2 (shape part.old.value) }
     ensures grown { moves.old ≤ moves.new }
 {
     node_holds(place, part, moves)
@@ -72,8 +72,8 @@ fn some_holds<'v, L: Ledger>(
     requires { AreSound place.now.version.now (shapes_of (map shape parts.old.items)) }
     ensures says { result ≡ some_true place.now.version.now (shapes_of (map shape parts.old.items)) (asked_at place.now) }
     ensures same { map shape parts.new.items ≡ map shape parts.old.items }
-    ensures price { are_cheap_shapes (shapes_of (map shape parts.old.items)) ≡ true
-        → moves.new ≤ moves.old + run_costs (moves_for place.now) (shapes_of (map shape parts.old.items)) }
+    ensures price { are_cheap_shapes true (shapes_of (map shape parts.old.items)) ≡ true
+        → moves.new ≤ moves.old + run_costs (moves_for place.now) 2 (shapes_of (map shape parts.old.items)) }
     ensures grown { moves.old ≤ moves.new }
 {
     for number in 0..parts.len() {
@@ -93,8 +93,8 @@ fn all_hold<'v, L: Ledger>(
     requires { AreSound place.now.version.now (shapes_of (map shape parts.old.items)) }
     ensures says { result ≡ all_true place.now.version.now (shapes_of (map shape parts.old.items)) (asked_at place.now) }
     ensures same { map shape parts.new.items ≡ map shape parts.old.items }
-    ensures price { are_cheap_shapes (shapes_of (map shape parts.old.items)) ≡ true
-        → moves.new ≤ moves.old + run_costs (moves_for place.now) (shapes_of (map shape parts.old.items)) }
+    ensures price { are_cheap_shapes true (shapes_of (map shape parts.old.items)) ≡ true
+        → moves.new ≤ moves.old + run_costs (moves_for place.now) 2 (shapes_of (map shape parts.old.items)) }
     ensures grown { moves.old ≤ moves.new }
 {
     for number in 0..parts.len() {

@@ -11,6 +11,7 @@ ghost use Rattle.plan_runs.specs.steps.RunShapes.{group_shape, hits_shape, merge
 ghost use Rattle.plan_runs.specs.steps.RunSkips.{merge_skip, phrase_skip, placed_skip, skip, terms_skip, words_skip};
 ghost use Rattle.plan_runs.specs.steps.Skips.{later, latest, skip_of, variant_skip, variants_skip, word_skip};
 
+use crate::looking_counts_up::look_counts_up;
 use crate::needs::{NeededSides, Needs};
 use crate::occurrence_ranges::is_enough;
 use crate::run_hits::RunHits;
@@ -39,7 +40,7 @@ pub(crate) fn look_up(doc: DocId, node: &mut RunNode<'_>) -> bool
         RunNode::Hits(hits) => look_hits_up(doc, hits),
         RunNode::Merge(merge) => look_merge_up(doc, merge),
         RunNode::Placed(placed) => look_placed_up(doc, placed),
-        RunNode::Counted(_counts) => true,
+        RunNode::Counted(counts) => look_counts_up(doc, counts),
     }
 }
 
@@ -71,7 +72,7 @@ fn look_all_up(doc: DocId, parts: &mut Vec<RunNode<'_>>) -> bool
 }
 
 /// Whether one of two is true.
-fn either(one: bool, other: bool) -> bool
+pub(crate) fn either(one: bool, other: bool) -> bool
     ensures one { result ≡ false → one ≡ false }
     ensures other { result ≡ false → other ≡ false }
 {
@@ -129,7 +130,7 @@ fn look_groups_up(doc: DocId, groups: &mut Vec<RunGroup<'_>>) -> bool
     may
 }
 
-fn look_variants_up(doc: DocId, variants: &mut Vec<Vec<WordTerms<'_>>>) -> bool
+pub(crate) fn look_variants_up(doc: DocId, variants: &mut Vec<Vec<WordTerms<'_>>>) -> bool
     ensures same { map variant_words variants.new.items ≡ map variant_words variants.old.items }
     ensures none { result ≡ false → IsMissing (λ part. variants_skip doc.0 part (map variant_words variants.old.items)) }
 {

@@ -75,8 +75,9 @@ fn boxed_ways<'v>(opening: &Opening<'v>, ways: RunWays<'v>) -> Result<Box<RunWay
     }
 }
 
+/// The walk through the ways of what is made of phrases.
 #[cycle(operator)]
-fn open_operator<'v>(
+pub(crate) fn open_operator<'v>(
     opening: &Opening<'v>,
     plan: &OperatorPlan,
 ) -> Result<Tuples<PhraseCursor<'v>>, Memory>

@@ -143,7 +143,7 @@ pub(crate) fn skip_from<L: Ledger>(
     moves: &mut Steps<L>,
 ) -> u32
     ensures says { result ≡ place_of (spec.skip doc.0 (part_from from) (shape root.now)) }
-    ensures price { is_cheap_shape (shape root.now) ≡ true → moves.new ≤ moves.old + run_cost term_count (shape root.now) }
+    ensures price { is_cheap_shape true (shape root.now) ≡ true → moves.new ≤ moves.old + run_cost term_count 1 (shape root.now) }
     ensures grown { moves.old ≤ moves.new }
 {
     let part = Span { from, to: u32::MAX };

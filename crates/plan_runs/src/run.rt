@@ -1,11 +1,11 @@
 //! Plans opened over a version of the index, and tested at spans of its documents.
 
-ghost use Rattle.std.specs.Prelude.{◌≡◌, ◌≤◌, ◌+◌, true, false, IfOk};
+ghost use Rattle.std.specs.Prelude.{◌≡◌, ◌≤◌, ◌+◌, ◌*◌, true, false, IfOk};
 ghost use Rattle.ft_base.specs.declared.span.Span.{Span};
 ghost use Rattle.all_matches.specs.Meaning.{sat};
 ghost use Rattle.index_meaning.specs.Documents.{document_at, has_document, token_count};
 ghost use Rattle.index_phrases.specs.Tokens.{span_tokens};
-ghost use Rattle.plan_compiler.specs.CheapSelections.{is_cheap};
+ghost use Rattle.plan_compiler.specs.CheapSelections.{is_cheap, is_cheap_or_counted};
 ghost use Rattle.plan_compiler.specs.Lexicon.{lexicon};
 ghost use Rattle.plan_runs.specs.RunPrice.{price_at};
 
@@ -78,14 +78,17 @@ impl<'v> Run<'v> {
     }
 
     /// Whether the tokens of the span of the document satisfy the plan's selection. It moves cursors forward, counts each move, and takes
-    /// no memory. The moves of a cheap selection are at most its price at the span. Where the tokens don't satisfy it, it may look how far
-    /// the words that the selection needs are, and count a move for each term of theirs: no span in between is tested by cursors.
+    /// no memory. The moves of a cheap selection are at most its price at the span, and at most twice its price where words are counted in
+    /// windows, sentences or paragraphs as well. Where the tokens don't satisfy it, it may look how far the words that the selection needs
+    /// are, and count a move for each term of theirs: no span in between is tested by cursors.
     pub fn test<L: Ledger>(&mut self, doc: DocId, span: Span, moves: &mut Steps<L>) -> bool
         requires there { has_document doc.0 self.old.version ≡ true }
         requires inside { (1 ≤ span.from) × (span.from ≤ span.to) × (span.to ≤ token_count (document_at doc.0 self.old.version) + 1) }
         ensures says { result ≡ sat (lexicon self.old.lists) self.old.form (span_tokens span (document_at doc.0 self.old.version)) }
         ensures same { self.new ≡ self.old }
         ensures price { is_cheap (lexicon self.old.lists) self.old.form ≡ true → moves.new ≤ moves.old + price_at self.old doc.0 span }
+        ensures counted { is_cheap_or_counted (lexicon self.old.lists) self.old.form ≡ true
+            → moves.new ≤ moves.old + 2 * price_at self.old doc.0 span }
         ensures grown { moves.old ≤ moves.new }
     {
         if self.ruled_out.holds(doc, span) {

@@ -12,6 +12,7 @@ ghost use Rattle.plan_runs.specs.steps.RunSkips as spec;
 ghost use Rattle.plan_runs.specs.steps.RunSkips.{phrase_skip, terms_skip};
 ghost use Rattle.plan_runs.specs.steps.Skips.{latest, variant_skip, vectors_skip, word_skip};
 
+use crate::counts_skipping::counts_skip;
 use crate::needed_skips::needs_skip;
 use crate::occurrence_ranges::is_enough;
 use crate::reading::first_in;
@@ -32,7 +33,7 @@ pub(crate) fn skip<L: Ledger>(
     moves: &mut Steps<L>,
 ) -> Option<u32>
     ensures says { result ≡ spec.skip doc.0 part (shape node.now) }
-    ensures price { is_cheap_shape (shape node.now) ≡ true → moves.new ≤ moves.old + run_cost term_count (shape node.now) }
+    ensures price { is_cheap_shape true (shape node.now) ≡ true → moves.new ≤ moves.old + run_cost term_count 1 (shape node.now) }
     ensures grown { moves.old ≤ moves.new }
 {
     match node {
@@ -45,7 +46,7 @@ pub(crate) fn skip<L: Ledger>(
         RunNode::Hits(hits) => needs_skip(doc, part, &hits.needs, moves),
         RunNode::Merge(merge) => merge_skip(doc, part, &merge.words, moves),
         RunNode::Placed(placed) => placed_skip(doc, part, placed, moves),
-        RunNode::Counted(_counts) => Some(0),
+        RunNode::Counted(counts) => counts_skip(doc, part, counts, moves),
     }
 }
 
@@ -57,8 +58,8 @@ fn first_skip<L: Ledger>(
     moves: &mut Steps<L>,
 ) -> Option<u32>
     ensures says { result ≡ soonest (map (λ node. spec.skip doc.0 part (shape node)) nodes.now.items) }
-    ensures price { are_cheap_shapes (shapes_of (map shape nodes.now.items)) ≡ true
-        → moves.new ≤ moves.old + run_costs term_count (shapes_of (map shape nodes.now.items)) }
+    ensures price { are_cheap_shapes true (shapes_of (map shape nodes.now.items)) ≡ true
+        → moves.new ≤ moves.old + run_costs term_count 1 (shapes_of (map shape nodes.now.items)) }
     ensures grown { moves.old ≤ moves.new }
 {
     let mut first = None;
@@ -76,8 +77,8 @@ fn last_skip<L: Ledger>(
     moves: &mut Steps<L>,
 ) -> Option<u32>
     ensures says { result ≡ latest (map (λ node. spec.skip doc.0 part (shape node)) nodes.now.items) }
-    ensures price { are_cheap_shapes (shapes_of (map shape nodes.now.items)) ≡ true
-        → moves.new ≤ moves.old + run_costs term_count (shapes_of (map shape nodes.now.items)) }
+    ensures price { are_cheap_shapes true (shapes_of (map shape nodes.now.items)) ≡ true
+        → moves.new ≤ moves.old + run_costs term_count 1 (shapes_of (map shape nodes.now.items)) }
     ensures grown { moves.old ≤ moves.new }
 {
     let mut last = 0;
@@ -274,7 +275,7 @@ fn placed_skip<L: Ledger>(
 }
 
 /// The greater of two places.
-fn greater(one: u32, other: u32) -> u32
+pub(crate) fn greater(one: u32, other: u32) -> u32
     ensures { result ≡ max one other }
 {
     one.max(other)

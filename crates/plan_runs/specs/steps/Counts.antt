@@ -72,8 +72,11 @@ abbrev pub counts_say : List Numbered → CountsShape → AskedSpan → Bool
 counts_say version run asked = fit_in run.field (map (terms_counted version run.field asked) run.words)
 
 -- what they cost, once for the hits that come in; those that go out cost as much
+abbrev pub item_cost : (WordTerms → ℕ) → TermCounts → ℕ
+item_cost cost item = sum_by (λ group. sum_by (sum_by cost) group.1) item.groups
+
 abbrev pub counts_cost : (WordTerms → ℕ) → CountsShape → ℕ
-counts_cost cost run = sum_by (λ item. sum_by (λ group. sum_by (sum_by cost) group.1) item.groups) run.words
+counts_cost cost run = sum_by (item_cost cost) run.words
 
 -- ---- when they fit
 

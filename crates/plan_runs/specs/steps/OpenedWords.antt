@@ -1,5 +1,5 @@
 -- Compiled words opened over a version: terms in the place of tests.
-use Rattle.std.specs.Prelude.{◌≡◌, ◌≤◌, ℕ, true, List, map}
+use Rattle.std.specs.Prelude.{◌≡◌, ◌≤◌, ℕ, Bool, true, List, map}
 use Rattle.std.specs.List.{All, list_all, sum_by}
 use Rattle.index_meaning.specs.Documents.{Numbered}
 use Rattle.word_lists.specs.Stems.{Stem}
@@ -40,8 +40,8 @@ module _ (looks : Looks) (stems : List Stem) (version : List Numbered) where
     pub sound : IsSound version run
     pub says : (asked : AskedSpan) → IsAsked version asked → run_truth version run asked ≡ truth node (looked_text looks stems (tokens_in version asked))
     pub cost : (word_cost : WordTerms → ℕ) → (test_cost : ItemTest → ℕ) → IsFair word_cost
-        → ((test : ItemTest) → word_cost (opened_item looks stems version test) ≤ test_cost test) → run_cost word_cost run ≤ node_cost test_cost node
-    pub cheap : is_cheap_node node ≡ true → is_cheap_shape run ≡ true
+        → ((test : ItemTest) → word_cost (opened_item looks stems version test) ≤ test_cost test) → run_cost word_cost 1 run ≤ node_cost test_cost node
+    pub cheap : (counts : Bool) → is_cheap_node counts node ≡ true → is_cheap_shape counts run ≡ true
 
   -- the same of lists of both
   pub record AreOpened (runs : List Shape) (nodes : List Node) : Type 0 where
@@ -50,5 +50,5 @@ module _ (looks : Looks) (stems : List Stem) (version : List Numbered) where
         → map (λ run. run_truth version run asked) runs ≡ map (λ node. truth node (looked_text looks stems (tokens_in version asked))) nodes
     pub cost : (word_cost : WordTerms → ℕ) → (test_cost : ItemTest → ℕ) → IsFair word_cost
         → ((test : ItemTest) → word_cost (opened_item looks stems version test) ≤ test_cost test)
-        → sum_by (run_cost word_cost) runs ≤ sum_by (node_cost test_cost) nodes
-    pub cheap : list_all is_cheap_node nodes ≡ true → list_all is_cheap_shape runs ≡ true
+        → sum_by (run_cost word_cost 1) runs ≤ sum_by (node_cost test_cost) nodes
+    pub cheap : (counts : Bool) → list_all (is_cheap_node counts) nodes ≡ true → list_all (is_cheap_shape counts) runs ≡ true

@@ -1,10 +1,11 @@
--- What the words of a run's tree cost together, whatever each of them costs. Those of a walk through ways, of a pass through hits and of
--- spots have no part in it: nothing bounds their moves.
+-- What the words of a run's tree cost together, whatever each of them costs, and those that are counted in windows, sentences or paragraphs
+-- so many times. Those of a walk through ways, of a pass through hits and of spots have no part in it: nothing bounds their moves.
 use Rattle.std.specs.Prelude.{◌≡◌, ◌≤◌, ℕ, ◌+◌, ◌*◌, List, [], ◌++◌, length}
 use Rattle.std.specs.List.{sum_by}
 use Rattle.index_versions.specs.Terms.{VersionTerm}
 use Rattle.plan_runs.specs.steps.AskedPlaces.{hits_at}
 use Rattle.plan_runs.specs.steps.ChosenTerms.{numbers_of}
+use Rattle.plan_runs.specs.steps.Counts.{counts_cost}
 use Rattle.plan_runs.specs.steps.Merges.{merge_cost}
 use Rattle.plan_runs.specs.steps.RunShapes.{GroupShape, WordsShape, Shape, Shapes, none, more}
 use Rattle.plan_runs.specs.steps.RunShapes.{words, any_of, all_of, not_of, by_ways, by_near, by_hits, by_merge, by_spots, by_counts}
@@ -23,21 +24,21 @@ module _ (cost : WordTerms → ℕ) where
   words_cost run = sum_by phrase_cost run.phrases
 
   unfoldable mutual
-    pub run_cost : Shape → ℕ
-    run_cost (words run) = words_cost run
-    run_cost (any_of parts) = run_costs parts
-    run_cost (all_of parts) = run_costs parts
-    run_cost (not_of part) = run_cost part
-    run_cost (by_ways run) = 0
-    run_cost (by_near run) = 0
-    run_cost (by_hits run) = 0
-    run_cost (by_merge merge) = merge_cost cost merge
-    run_cost (by_spots run) = 0
-    run_cost (by_counts run) = 0
+    pub run_cost : ℕ → Shape → ℕ
+    run_cost times (words run) = words_cost run
+    run_cost times (any_of parts) = run_costs times parts
+    run_cost times (all_of parts) = run_costs times parts
+    run_cost times (not_of part) = run_cost times part
+    run_cost times (by_ways run) = 0
+    run_cost times (by_near run) = 0
+    run_cost times (by_hits run) = 0
+    run_cost times (by_merge merge) = merge_cost cost merge
+    run_cost times (by_spots run) = 0
+    run_cost times (by_counts run) = times * counts_cost cost run
 
-    pub run_costs : Shapes → ℕ
-    run_costs none = 0
-    run_costs (more part rest) = run_cost part + run_costs rest
+    pub run_costs : ℕ → Shapes → ℕ
+    run_costs times none = 0
+    run_costs times (more part rest) = run_cost times part + run_costs times rest
 
 -- a cost by which terms together cost no more than apart
 pub record IsFair (cost : WordTerms → ℕ) : Type 0 where

@@ -4,7 +4,7 @@ use Rattle.plan_runs.specs.steps.CheapShapes.{are_cheap_shapes, is_cheap_shape}
 use Rattle.plan_runs.specs.steps.RunCosts.{moves_for, run_cost, run_costs, words_cost}
 use Rattle.plan_runs.specs.steps.RunShapes.{hits_shape, merge_shape, near_shape, shape, shapes_of, words_shape, placed_shape, counts_shape}
 use Rattle.plan_runs.specs.steps.Passes.{AreHits, hits_say}
-use Rattle.plan_runs.specs.steps.Counts.{AreCounts, counts_say}
+use Rattle.plan_runs.specs.steps.Counts.{AreCounts, counts_cost, counts_say}
 use Rattle.plan_runs.specs.steps.Merges.{IsMerge, merge_cost, merge_says}
 use Rattle.plan_runs.specs.steps.NearRuns.{AreNear}
 use Rattle.plan_runs.specs.steps.OpenedOperators.{AreAims, aims_of}
@@ -22,7 +22,7 @@ use Rattle.plan_runs.specs.declared.run_placed.RunPlaced.{RunPlaced}
 use Rattle.plan_runs.specs.declared.run_ways.RunWays.{RunWays}
 use Rattle.index_phrases.proofs.PartLemmas.{as_many, holds_at, part_at, parts_kept}
 use Rattle.plan_runs.proofs.SumLemmas.{one_more}
-use Rattle.plan_runs.proofs.TreeLemmas.{all_end, all_more, cost-And, cost-Merge, cost-Not, cost-Or, cost-Words, costs_so_far, each_sound, same-And, same-Hits, same-Merge, same-Near, same-Not, same-Or, same-Ways, same-Words, says-And, says-Hits, says-Merge, says-Near, says-Not, says-Or, says-Ways, says-Words, some_end, some_more, sound-And, sound-Hits, sound-Merge, sound-Near, sound-Not, sound-Or, sound-Ways, sound-Words, cheap-Counted, same-Counted, says-Counted, sound-Counted, weight, weights, weight_at, weight-And, weight-Not, weight-Or, cheap-And, cheap-Hits, cheap-Near, cheap-Not, cheap-Or, cheap-Placed, cheap-Ways, each_cheap, same-Placed, says-Placed, sound-Placed}
+use Rattle.plan_runs.proofs.TreeLemmas.{all_end, all_more, cost-And, cost-Counted, cost-Merge, cost-Not, cost-Or, cost-Words, costs_so_far, each_sound, same-And, same-Hits, same-Merge, same-Near, same-Not, same-Or, same-Ways, same-Words, says-And, says-Hits, says-Merge, says-Near, says-Not, says-Or, says-Ways, says-Words, some_end, some_more, sound-And, sound-Hits, sound-Merge, sound-Near, sound-Not, sound-Or, sound-Ways, sound-Words, same-Counted, says-Counted, sound-Counted, weight, weights, weight_at, weight-And, weight-Not, weight-Or, cheap-And, cheap-Hits, cheap-Near, cheap-Not, cheap-Or, cheap-Placed, cheap-Ways, each_cheap, same-Placed, says-Placed, sound-Placed}
 use Rattle.plan_runs.proofs.holding.+holding.Goals as goal
 
 pub node_holds-words_hold-requires : goal.node_holds-words_hold-requires
@@ -147,7 +147,7 @@ pub node_holds-returns-in-Merge-clause-price : goal.node_holds-returns-in-Merge-
 node_holds-returns-in-Merge-clause-price g t c =
     let cost = moves_for c.args.place.now in
     let own = ap (λ (run : RunMerge). merge_cost cost (merge_shape run)) c.in-Merge.merge-is in
-    let whole = cost-Merge cost c.args.node.now c.in-Merge.merge c.in-Merge.is in
+    let whole = cost-Merge cost 2 c.args.node.now c.in-Merge.merge c.in-Merge.is in
     λ h. omega (arith, own, whole, c.merge_holds.ensures.price)
 
 pub node_holds-placed_holds-requires : goal.node_holds-placed_holds-requires
@@ -174,20 +174,17 @@ pub node_holds-returns-in-Counted-clause-same : goal.node_holds-returns-in-Count
 node_holds-returns-in-Counted-clause-same g t c =
     let same = same-Counted (R.Counted c.in-Counted.counts) c.in-Counted.counts c.counts_hold.new.counts refl (c.counts_hold.ensures.same ∙ ap counts_shape c.in-Counted.counts-is) in rw c.in-Counted.is (search (rules, the_lemmas, same))
 
-pub node_holds-returns-in-Counted-clause-price : goal.node_holds-returns-in-Counted-clause-price
-node_holds-returns-in-Counted-clause-price g t c h = absurd (true≢false (sym h ∙ cheap-Counted c.args.node.now c.in-Counted.counts c.in-Counted.is))
-
 pub node_holds-returns-in-Placed-clause-price : goal.node_holds-returns-in-Placed-clause-price
-node_holds-returns-in-Placed-clause-price g t c h = absurd (true≢false (sym h ∙ cheap-Placed c.args.node.now c.in-Placed.placed c.in-Placed.is))
+node_holds-returns-in-Placed-clause-price g t c h = absurd (true≢false (sym h ∙ cheap-Placed true c.args.node.now c.in-Placed.placed c.in-Placed.is))
 
 pub node_holds-returns-in-Ways-clause-price : goal.node_holds-returns-in-Ways-clause-price
-node_holds-returns-in-Ways-clause-price g t c h = absurd (true≢false (sym h ∙ cheap-Ways c.args.node.now c.in-Ways.ways c.in-Ways.is))
+node_holds-returns-in-Ways-clause-price g t c h = absurd (true≢false (sym h ∙ cheap-Ways true c.args.node.now c.in-Ways.ways c.in-Ways.is))
 
 pub node_holds-returns-in-Near-clause-price : goal.node_holds-returns-in-Near-clause-price
-node_holds-returns-in-Near-clause-price g t c h = absurd (true≢false (sym h ∙ cheap-Near c.args.node.now c.in-Near.near c.in-Near.is))
+node_holds-returns-in-Near-clause-price g t c h = absurd (true≢false (sym h ∙ cheap-Near true c.args.node.now c.in-Near.near c.in-Near.is))
 
 pub node_holds-returns-in-Hits-clause-price : goal.node_holds-returns-in-Hits-clause-price
-node_holds-returns-in-Hits-clause-price g t c h = absurd (true≢false (sym h ∙ cheap-Hits c.args.node.now c.in-Hits.hits c.in-Hits.is))
+node_holds-returns-in-Hits-clause-price g t c h = absurd (true≢false (sym h ∙ cheap-Hits true c.args.node.now c.in-Hits.hits c.in-Hits.is))
 
 pub some_holds-node_holds-requires : goal.some_holds-node_holds-requires
 some_holds-node_holds-requires g t c κs within =
@@ -239,10 +236,10 @@ some_holds-loop-number-preserved g t c =
           ∙ ap (λ (b : Bool). b || some_true c.args.place.now.version.now (shapes_of (drop (c.loop-number.number + 1) views)) (asked_at c.args.place.now)) (sym c.node_holds.ensures.says ∙ c.if-node_holds.false))
           ∙ c.loop-number.invariant.says;
       price = λ h.
-          one_more (run_cost (moves_for c.args.place.now)) views c.loop-number.number c.args.moves.now (shape c.index_mut.result.now) c.loop-number.moves c.node_holds.new.moves (omega arith)
+          one_more (run_cost (moves_for c.args.place.now) 2) views c.loop-number.number c.args.moves.now (shape c.index_mut.result.now) c.loop-number.moves c.node_holds.new.moves (omega arith)
           (part_at shape c.loop-number.parts.items views c.loop-number.number c.index_mut.result.now c.loop-number.invariant.same c.index_mut.ensures.value)
           (c.loop-number.invariant.price h)
-          (c.node_holds.ensures.price (holds_at shape (λ own. is_cheap_shape own ≡ true) c.loop-number.parts.items views c.loop-number.number c.index_mut.result.now (each_cheap views h) c.loop-number.invariant.same (omega arith) c.index_mut.ensures.value));
+          (c.node_holds.ensures.price (holds_at shape (λ own. is_cheap_shape true own ≡ true) c.loop-number.parts.items views c.loop-number.number c.index_mut.result.now (each_cheap true views h) c.loop-number.invariant.same (omega arith) c.index_mut.ensures.value));
       grown = omega arith;
     }
 
@@ -304,10 +301,10 @@ all_hold-loop-number-preserved g t c =
           ∙ ap (λ (b : Bool). b && all_true c.args.place.now.version.now (shapes_of (drop (c.loop-number.number + 1) views)) (asked_at c.args.place.now)) (sym c.node_holds.ensures.says ∙ c.if-not-node_holds.false))
           ∙ c.loop-number.invariant.says;
       price = λ h.
-          one_more (run_cost (moves_for c.args.place.now)) views c.loop-number.number c.args.moves.now (shape c.index_mut.result.now) c.loop-number.moves c.node_holds.new.moves (omega arith)
+          one_more (run_cost (moves_for c.args.place.now) 2) views c.loop-number.number c.args.moves.now (shape c.index_mut.result.now) c.loop-number.moves c.node_holds.new.moves (omega arith)
           (part_at shape c.loop-number.parts.items views c.loop-number.number c.index_mut.result.now c.loop-number.invariant.same c.index_mut.ensures.value)
           (c.loop-number.invariant.price h)
-          (c.node_holds.ensures.price (holds_at shape (λ own. is_cheap_shape own ≡ true) c.loop-number.parts.items views c.loop-number.number c.index_mut.result.now (each_cheap views h) c.loop-number.invariant.same (omega arith) c.index_mut.ensures.value));
+          (c.node_holds.ensures.price (holds_at shape (λ own. is_cheap_shape true own ≡ true) c.loop-number.parts.items views c.loop-number.number c.index_mut.result.now (each_cheap true views h) c.loop-number.invariant.same (omega arith) c.index_mut.ensures.value));
       grown = omega arith;
     }
 
@@ -325,35 +322,42 @@ pub node_holds-returns-in-Words-clause-price : goal.node_holds-returns-in-Words-
 node_holds-returns-in-Words-clause-price g t c =
     let cost = moves_for c.args.place.now in
     let same = ap (λ (run : RunWords). words_cost cost (words_shape run)) c.in-Words.words-is in
-    let whole = cost-Words cost c.args.node.now c.in-Words.words c.in-Words.is in
+    let whole = cost-Words cost 2 c.args.node.now c.in-Words.words c.in-Words.is in
     λ h. omega (arith, c.words_hold.ensures.price, same, whole)
 
 pub node_holds-returns-in-Or-clause-price : goal.node_holds-returns-in-Or-clause-price
 node_holds-returns-in-Or-clause-price g t c =
     let cost = moves_for c.args.place.now in
-    let same = ap (λ (parts : Vec RunNode Global). run_costs cost (shapes_of (map shape parts.items))) c.in-Or.parts-is in
-    let whole = cost-Or cost c.args.node.now c.in-Or.parts c.in-Or.is in
+    let same = ap (λ (parts : Vec RunNode Global). run_costs cost 2 (shapes_of (map shape parts.items))) c.in-Or.parts-is in
+    let whole = cost-Or cost 2 c.args.node.now c.in-Or.parts c.in-Or.is in
     λ h.
-    let all = ap (λ (parts : Vec RunNode Global). are_cheap_shapes (shapes_of (map shape parts.items))) c.in-Or.parts-is ∙ cheap-Or c.args.node.now c.in-Or.parts c.in-Or.is ∙ h in
+    let all = ap (λ (parts : Vec RunNode Global). are_cheap_shapes true (shapes_of (map shape parts.items))) c.in-Or.parts-is ∙ cheap-Or true c.args.node.now c.in-Or.parts c.in-Or.is ∙ h in
     omega (arith, c.some_holds.ensures.price all, same, whole)
 
 pub node_holds-returns-in-And-clause-price : goal.node_holds-returns-in-And-clause-price
 node_holds-returns-in-And-clause-price g t c =
     let cost = moves_for c.args.place.now in
-    let same = ap (λ (parts : Vec RunNode Global). run_costs cost (shapes_of (map shape parts.items))) c.in-And.parts-is in
-    let whole = cost-And cost c.args.node.now c.in-And.parts c.in-And.is in
+    let same = ap (λ (parts : Vec RunNode Global). run_costs cost 2 (shapes_of (map shape parts.items))) c.in-And.parts-is in
+    let whole = cost-And cost 2 c.args.node.now c.in-And.parts c.in-And.is in
     λ h.
-    let all = ap (λ (parts : Vec RunNode Global). are_cheap_shapes (shapes_of (map shape parts.items))) c.in-And.parts-is ∙ cheap-And c.args.node.now c.in-And.parts c.in-And.is ∙ h in
+    let all = ap (λ (parts : Vec RunNode Global). are_cheap_shapes true (shapes_of (map shape parts.items))) c.in-And.parts-is ∙ cheap-And true c.args.node.now c.in-And.parts c.in-And.is ∙ h in
     omega (arith, c.all_hold.ensures.price all, same, whole)
 
 pub node_holds-returns-in-Not-clause-price : goal.node_holds-returns-in-Not-clause-price
 node_holds-returns-in-Not-clause-price g t c =
     let cost = moves_for c.args.place.now in
-    let same = ap (λ (part : Box RunNode Global). run_cost cost (shape part.value)) c.in-Not.part-is in
-    let whole = cost-Not cost c.args.node.now c.in-Not.part c.in-Not.is in
+    let same = ap (λ (part : Box RunNode Global). run_cost cost 2 (shape part.value)) c.in-Not.part-is in
+    let whole = cost-Not cost 2 c.args.node.now c.in-Not.part c.in-Not.is in
     λ h.
-    let own = ap (λ (part : Box RunNode Global). is_cheap_shape (shape part.value)) c.in-Not.part-is ∙ cheap-Not c.args.node.now c.in-Not.part c.in-Not.is ∙ h in
+    let own = ap (λ (part : Box RunNode Global). is_cheap_shape true (shape part.value)) c.in-Not.part-is ∙ cheap-Not true c.args.node.now c.in-Not.part c.in-Not.is ∙ h in
     omega (arith, c.part_holds.ensures.price own, same, whole)
+
+pub node_holds-returns-in-Counted-clause-price : goal.node_holds-returns-in-Counted-clause-price
+node_holds-returns-in-Counted-clause-price g t c =
+    let cost = moves_for c.args.place.now in
+    let same = ap (λ (run : RunCounts). counts_cost cost (counts_shape run)) c.in-Counted.counts-is in
+    let whole = cost-Counted cost 2 c.args.node.now c.in-Counted.counts c.in-Counted.is in
+    λ h. omega (arith, c.counts_hold.ensures.price, same, whole)
 
 pub some_holds-returns-then-node_holds-clause-price : goal.some_holds-returns-then-node_holds-clause-price
 some_holds-returns-then-node_holds-clause-price g t c =
@@ -363,15 +367,15 @@ some_holds-returns-then-node_holds-clause-price g t c =
     let end = c.len-number-end.ensures in
     let now = as_many shape c.loop-number.parts.items views c.loop-number.invariant.same in
     λ h.
-    costs_so_far (moves_for c.args.place.now) views (c.loop-number.number + 1) c.args.moves.now c.node_holds.new.moves
-    (one_more (run_cost (moves_for c.args.place.now)) views c.loop-number.number c.args.moves.now (shape c.index_mut.result.now) c.loop-number.moves c.node_holds.new.moves (omega arith)
+    costs_so_far (moves_for c.args.place.now) 2 views (c.loop-number.number + 1) c.args.moves.now c.node_holds.new.moves
+    (one_more (run_cost (moves_for c.args.place.now) 2) views c.loop-number.number c.args.moves.now (shape c.index_mut.result.now) c.loop-number.moves c.node_holds.new.moves (omega arith)
     (part_at shape c.loop-number.parts.items views c.loop-number.number c.index_mut.result.now c.loop-number.invariant.same c.index_mut.ensures.value)
     (c.loop-number.invariant.price h)
-    (c.node_holds.ensures.price (holds_at shape (λ own. is_cheap_shape own ≡ true) c.loop-number.parts.items views c.loop-number.number c.index_mut.result.now (each_cheap views h) c.loop-number.invariant.same (omega arith) c.index_mut.ensures.value)))
+    (c.node_holds.ensures.price (holds_at shape (λ own. is_cheap_shape true own ≡ true) c.loop-number.parts.items views c.loop-number.number c.index_mut.result.now (each_cheap true views h) c.loop-number.invariant.same (omega arith) c.index_mut.ensures.value)))
 
 pub some_holds-returns-clause-price : goal.some_holds-returns-clause-price
 some_holds-returns-clause-price g t c =
-    λ h. costs_so_far (moves_for c.args.place.now) (map shape c.args.parts.now.items) c.loop-number.number c.args.moves.now c.loop-number.moves (c.loop-number.invariant.price h)
+    λ h. costs_so_far (moves_for c.args.place.now) 2 (map shape c.args.parts.now.items) c.loop-number.number c.args.moves.now c.loop-number.moves (c.loop-number.invariant.price h)
 
 pub all_hold-returns-then-not-node_holds-clause-price : goal.all_hold-returns-then-not-node_holds-clause-price
 all_hold-returns-then-not-node_holds-clause-price g t c =
@@ -381,12 +385,12 @@ all_hold-returns-then-not-node_holds-clause-price g t c =
     let end = c.len-number-end.ensures in
     let now = as_many shape c.loop-number.parts.items views c.loop-number.invariant.same in
     λ h.
-    costs_so_far (moves_for c.args.place.now) views (c.loop-number.number + 1) c.args.moves.now c.node_holds.new.moves
-    (one_more (run_cost (moves_for c.args.place.now)) views c.loop-number.number c.args.moves.now (shape c.index_mut.result.now) c.loop-number.moves c.node_holds.new.moves (omega arith)
+    costs_so_far (moves_for c.args.place.now) 2 views (c.loop-number.number + 1) c.args.moves.now c.node_holds.new.moves
+    (one_more (run_cost (moves_for c.args.place.now) 2) views c.loop-number.number c.args.moves.now (shape c.index_mut.result.now) c.loop-number.moves c.node_holds.new.moves (omega arith)
     (part_at shape c.loop-number.parts.items views c.loop-number.number c.index_mut.result.now c.loop-number.invariant.same c.index_mut.ensures.value)
     (c.loop-number.invariant.price h)
-    (c.node_holds.ensures.price (holds_at shape (λ own. is_cheap_shape own ≡ true) c.loop-number.parts.items views c.loop-number.number c.index_mut.result.now (each_cheap views h) c.loop-number.invariant.same (omega arith) c.index_mut.ensures.value)))
+    (c.node_holds.ensures.price (holds_at shape (λ own. is_cheap_shape true own ≡ true) c.loop-number.parts.items views c.loop-number.number c.index_mut.result.now (each_cheap true views h) c.loop-number.invariant.same (omega arith) c.index_mut.ensures.value)))
 
 pub all_hold-returns-clause-price : goal.all_hold-returns-clause-price
 all_hold-returns-clause-price g t c =
-    λ h. costs_so_far (moves_for c.args.place.now) (map shape c.args.parts.now.items) c.loop-number.number c.args.moves.now c.loop-number.moves (c.loop-number.invariant.price h)
+    λ h. costs_so_far (moves_for c.args.place.now) 2 (map shape c.args.parts.now.items) c.loop-number.number c.args.moves.now c.loop-number.moves (c.loop-number.invariant.price h)

@@ -26,8 +26,8 @@ invariant-some_holds-loop-number g l = record {
   same : map shape l.parts.items ≡ map shape l.fn.parts.items;
   says : some_true l.place.version.now (shapes_of (drop l.number (map shape l.fn.parts.items))) (asked_at l.place)
       ≡ some_true l.place.version.now (shapes_of (map shape l.fn.parts.items)) (asked_at l.place);
-  price : are_cheap_shapes (shapes_of (map shape l.fn.parts.items)) ≡ true
-      → l.moves ≤ l.fn.moves + sum_by (run_cost (moves_for l.place)) (take l.number (map shape l.fn.parts.items));
+  price : are_cheap_shapes true (shapes_of (map shape l.fn.parts.items)) ≡ true
+      → l.moves ≤ l.fn.moves + sum_by (run_cost (moves_for l.place) 2) (take l.number (map shape l.fn.parts.items));
   grown : l.fn.moves ≤ l.moves;
 }
 
@@ -36,7 +36,7 @@ invariant-all_hold-loop-number g l = record {
   same : map shape l.parts.items ≡ map shape l.fn.parts.items;
   says : all_true l.place.version.now (shapes_of (drop l.number (map shape l.fn.parts.items))) (asked_at l.place)
       ≡ all_true l.place.version.now (shapes_of (map shape l.fn.parts.items)) (asked_at l.place);
-  price : are_cheap_shapes (shapes_of (map shape l.fn.parts.items)) ≡ true
-      → l.moves ≤ l.fn.moves + sum_by (run_cost (moves_for l.place)) (take l.number (map shape l.fn.parts.items));
+  price : are_cheap_shapes true (shapes_of (map shape l.fn.parts.items)) ≡ true
+      → l.moves ≤ l.fn.moves + sum_by (run_cost (moves_for l.place) 2) (take l.number (map shape l.fn.parts.items));
   grown : l.fn.moves ≤ l.moves;
 }

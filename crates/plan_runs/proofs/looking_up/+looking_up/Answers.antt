@@ -3,21 +3,22 @@ use Rattle.std.proofs.Common.{◌<◌, ◌∙◌, ap, sym, refl, rules, length, 
 use Rattle.std.proofs.lemmas.Simd.{map-map}
 use Rattle.index_versions.specs.FirstPlaces.{soonest}
 use Rattle.index_phrases.proofs.PartLemmas.{as_many, part_at, parts_kept}
-use Rattle.plan_runs.specs.steps.RunShapes.{hits_shape, merge_shape, near_shape, placed_shape, shape, shapes_of, words_shape}
+use Rattle.plan_runs.specs.steps.RunShapes.{counts_shape, hits_shape, merge_shape, near_shape, placed_shape, shape, shapes_of, words_shape}
 use Rattle.plan_runs.specs.declared.run_node.RunNode.{RunNode, the_lemmas}
 use Rattle.plan_runs.specs.declared.run_node.RunNode as R
+use Rattle.plan_runs.specs.declared.run_counts.RunCounts.{RunCounts}
 use Rattle.plan_runs.specs.declared.run_hits.RunHits.{RunHits}
 use Rattle.plan_runs.specs.declared.run_near.RunNear.{RunNear}
 use Rattle.plan_runs.specs.declared.run_ways.RunWays.{RunWays}
 use Rattle.plan_runs.specs.steps.OpenedOperators.{aims_of}
-use Rattle.plan_runs.specs.steps.RunSkips.{merge_skip, placed_skip, skip, words_skip}
+use Rattle.plan_runs.specs.steps.RunSkips.{counts_skip, merge_skip, placed_skip, skip, words_skip}
 use Rattle.plan_runs.specs.steps.Skips.{latest, skip_of}
 use Rattle.plan_runs.specs.declared.run_merge.RunMerge.{RunMerge}
 use Rattle.plan_runs.specs.declared.run_node.RunWords.{RunWords}
 use Rattle.plan_runs.specs.declared.run_placed.RunPlaced.{RunPlaced}
 use Rattle.plan_runs.proofs.MissingLemmas.{all_missing, missing_more, one_missing}
-use Rattle.plan_runs.proofs.RunSkipLaw.{skip-And, skip-Hits, skip-Merge, skip-Near, skip-Or, skip-Placed, skip-Ways, skip-Words}
-use Rattle.plan_runs.proofs.TreeLemmas.{same-And, same-Hits, same-Merge, same-Near, same-Or, same-Placed, same-Ways, same-Words, weights, weight_at, weight-And, weight-Or}
+use Rattle.plan_runs.proofs.RunSkipLaw.{skip-And, skip-Counted, skip-Hits, skip-Merge, skip-Near, skip-Or, skip-Placed, skip-Ways, skip-Words}
+use Rattle.plan_runs.proofs.TreeLemmas.{same-And, same-Counted, same-Hits, same-Merge, same-Near, same-Or, same-Placed, same-Ways, same-Words, weights, weight_at, weight-And, weight-Or}
 use Rattle.plan_runs.proofs.looking_up.+looking_up.Goals as goal
 
 pub look_one_up-look_up-requires : goal.look_one_up-look_up-requires
@@ -140,6 +141,11 @@ look_up-returns-in-Placed-clause-same t c =
     let same = same-Placed (R.Placed c.in-Placed.placed) c.in-Placed.placed c.look_placed_up.new.placed refl (c.look_placed_up.ensures.same ∙ ap placed_shape c.in-Placed.placed-is) in
     rw c.in-Placed.is (search (rules, the_lemmas, same))
 
+pub look_up-returns-in-Counted-clause-same : goal.look_up-returns-in-Counted-clause-same
+look_up-returns-in-Counted-clause-same t c =
+    let same = same-Counted (R.Counted c.in-Counted.counts) c.in-Counted.counts c.look_counts_up.new.counts refl (c.look_counts_up.ensures.same ∙ ap counts_shape c.in-Counted.counts-is) in
+    rw c.in-Counted.is (search (rules, the_lemmas, same))
+
 -- ---- what is missing
 
 pub look_up-returns-in-Words-clause-none : goal.look_up-returns-in-Words-clause-none
@@ -207,3 +213,11 @@ look_up-returns-in-Placed-clause-none t c h part =
     ∙ skip-Placed doc part c.in-Placed.placed
     ∙ sym (ap (λ (placed : RunPlaced). placed_skip doc part (placed_shape placed)) c.in-Placed.placed-is)
     ∙ c.look_placed_up.ensures.none h part
+
+pub look_up-returns-in-Counted-clause-none : goal.look_up-returns-in-Counted-clause-none
+look_up-returns-in-Counted-clause-none t c h part =
+    let doc = c.args.doc.0 in
+    ap (λ n. skip doc part (shape n)) c.in-Counted.is
+    ∙ skip-Counted doc part c.in-Counted.counts
+    ∙ sym (ap (λ (counts : RunCounts). counts_skip doc part (counts_shape counts)) c.in-Counted.counts-is)
+    ∙ c.look_counts_up.ensures.none h part

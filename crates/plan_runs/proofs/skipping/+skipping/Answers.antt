@@ -10,7 +10,7 @@ use Rattle.plan_runs.specs.steps.RunSkips.{skip}
 use Rattle.plan_runs.specs.steps.Skips.{later, latest, skip_of}
 use Rattle.plan_runs.proofs.SkipLemmas.{fold_more, one_is_none}
 use Rattle.plan_runs.proofs.SumLemmas.{one_more}
-use Rattle.plan_runs.proofs.TreeLemmas.{cheap-And, cheap-Counted, cheap-Hits, cheap-Near, cheap-Or, cheap-Placed, cheap-Ways, cost-And, cost-Merge, cost-Or, cost-Words, costs_so_far, each_cheap}
+use Rattle.plan_runs.proofs.TreeLemmas.{cheap-And, cheap-Hits, cheap-Near, cheap-Or, cheap-Placed, cheap-Ways, cost-And, cost-Counted, cost-Merge, cost-Or, cost-Words, costs_so_far, each_cheap}
 use Rattle.plan_runs.proofs.RunSkipLaw.{skip-Words, skip-Or, skip-And, skip-Not, skip-Ways, skip-Near, skip-Hits, skip-Merge, words_listed, skip-Placed, skip-Counted}
 use Rattle.plan_runs.specs.declared.run_hits.RunHits.{RunHits}
 use Rattle.plan_runs.specs.declared.run_near.RunNear.{RunNear}
@@ -63,7 +63,7 @@ skip-returns-in-Merge-clause-says g t c =
 pub skip-returns-in-Counted-clause-says : goal.skip-returns-in-Counted-clause-says
 skip-returns-in-Counted-clause-says g t c =
     let doc = c.args.doc.0 in
-    sym (ap (λ n. skip doc c.args.part (shape n)) c.in-Counted.is ∙ skip-Counted doc c.args.part c.in-Counted._counts)
+    c.counts_skip.ensures.says ∙ sym (ap (λ n. skip doc c.args.part (shape n)) c.in-Counted.is ∙ skip-Counted doc c.args.part c.in-Counted.counts)
 
 pub skip-returns-in-Placed-clause-says : goal.skip-returns-in-Placed-clause-says
 skip-returns-in-Placed-clause-says g t c =
@@ -79,38 +79,40 @@ last_skip-returns-in-None-clause-says g t c =
 
 pub skip-returns-in-Words-clause-price : goal.skip-returns-in-Words-clause-price
 skip-returns-in-Words-clause-price g t c =
-    let whole = cost-Words term_count c.args.node.now c.in-Words.words c.in-Words.is in
+    let whole = cost-Words term_count 1 c.args.node.now c.in-Words.words c.in-Words.is in
     λ h. omega (arith, c.words_skip.ensures.price, whole)
 
 pub skip-returns-in-Or-clause-price : goal.skip-returns-in-Or-clause-price
 skip-returns-in-Or-clause-price g t c =
-    let whole = cost-Or term_count c.args.node.now c.in-Or.nodes c.in-Or.is in
-    λ h. omega (arith, c.first_skip.ensures.price (cheap-Or c.args.node.now c.in-Or.nodes c.in-Or.is ∙ h), whole)
+    let whole = cost-Or term_count 1 c.args.node.now c.in-Or.nodes c.in-Or.is in
+    λ h. omega (arith, c.first_skip.ensures.price (cheap-Or true c.args.node.now c.in-Or.nodes c.in-Or.is ∙ h), whole)
 
 pub skip-returns-in-And-clause-price : goal.skip-returns-in-And-clause-price
 skip-returns-in-And-clause-price g t c =
-    let whole = cost-And term_count c.args.node.now c.in-And.nodes c.in-And.is in
-    λ h. omega (arith, c.last_skip.ensures.price (cheap-And c.args.node.now c.in-And.nodes c.in-And.is ∙ h), whole)
+    let whole = cost-And term_count 1 c.args.node.now c.in-And.nodes c.in-And.is in
+    λ h. omega (arith, c.last_skip.ensures.price (cheap-And true c.args.node.now c.in-And.nodes c.in-And.is ∙ h), whole)
 
 pub skip-returns-in-Ways-clause-price : goal.skip-returns-in-Ways-clause-price
-skip-returns-in-Ways-clause-price g t c h = absurd (true≢false (sym h ∙ cheap-Ways c.args.node.now c.in-Ways.ways c.in-Ways.is))
+skip-returns-in-Ways-clause-price g t c h = absurd (true≢false (sym h ∙ cheap-Ways true c.args.node.now c.in-Ways.ways c.in-Ways.is))
 
 pub skip-returns-in-Near-clause-price : goal.skip-returns-in-Near-clause-price
-skip-returns-in-Near-clause-price g t c h = absurd (true≢false (sym h ∙ cheap-Near c.args.node.now c.in-Near.near c.in-Near.is))
+skip-returns-in-Near-clause-price g t c h = absurd (true≢false (sym h ∙ cheap-Near true c.args.node.now c.in-Near.near c.in-Near.is))
 
 pub skip-returns-in-Hits-clause-price : goal.skip-returns-in-Hits-clause-price
-skip-returns-in-Hits-clause-price g t c h = absurd (true≢false (sym h ∙ cheap-Hits c.args.node.now c.in-Hits.hits c.in-Hits.is))
+skip-returns-in-Hits-clause-price g t c h = absurd (true≢false (sym h ∙ cheap-Hits true c.args.node.now c.in-Hits.hits c.in-Hits.is))
 
 pub skip-returns-in-Merge-clause-price : goal.skip-returns-in-Merge-clause-price
 skip-returns-in-Merge-clause-price g t c =
-    let whole = cost-Merge term_count c.args.node.now c.in-Merge.merge c.in-Merge.is in
+    let whole = cost-Merge term_count 1 c.args.node.now c.in-Merge.merge c.in-Merge.is in
     λ h. omega (arith, c.merge_skip.ensures.price, whole)
 
 pub skip-returns-in-Counted-clause-price : goal.skip-returns-in-Counted-clause-price
-skip-returns-in-Counted-clause-price g t c h = absurd (true≢false (sym h ∙ cheap-Counted c.args.node.now c.in-Counted._counts c.in-Counted.is))
+skip-returns-in-Counted-clause-price g t c =
+    let whole = cost-Counted term_count 1 c.args.node.now c.in-Counted.counts c.in-Counted.is in
+    λ h. omega (arith, c.counts_skip.ensures.price, whole)
 
 pub skip-returns-in-Placed-clause-price : goal.skip-returns-in-Placed-clause-price
-skip-returns-in-Placed-clause-price g t c h = absurd (true≢false (sym h ∙ cheap-Placed c.args.node.now c.in-Placed.placed c.in-Placed.is))
+skip-returns-in-Placed-clause-price g t c h = absurd (true≢false (sym h ∙ cheap-Placed true c.args.node.now c.in-Placed.placed c.in-Placed.is))
 
 -- ---- several parts
 
@@ -131,15 +133,15 @@ first_skip-loop-node-preserved g t c =
           (soonest (map (λ node. skip doc c.args.part (shape node)) nodes)) same within c.node-item.is
           (c.sooner-first.ensures ∙ ap (sooner c.loop-node.first) c.skip.ensures.says) c.loop-node.invariant.skip;
       price = λ h.
-          one_more (run_cost term_count) (map shape nodes) i c.args.moves.now (shape node) c.loop-node.moves c.skip.new.moves (omega (arith, within, long, many)) at
+          one_more (run_cost term_count 1) (map shape nodes) i c.args.moves.now (shape node) c.loop-node.moves c.skip.new.moves (omega (arith, within, long, many)) at
           (c.loop-node.invariant.price h)
-          (c.skip.ensures.price (subst (λ own. is_cheap_shape own ≡ true) (sym at) (each_cheap (map shape nodes) h i (shape node) (omega (arith, within, long, many)))));
+          (c.skip.ensures.price (subst (λ own. is_cheap_shape true own ≡ true) (sym at) (each_cheap true (map shape nodes) h i (shape node) (omega (arith, within, long, many)))));
       grown = omega (arith, c.loop-node.invariant.grown, c.skip.ensures.grown);
     }
 
 pub first_skip-returns-clause-price : goal.first_skip-returns-clause-price
 first_skip-returns-clause-price g t c =
-    λ h. costs_so_far term_count (map shape c.args.nodes.now.items) c.loop-node.node-index c.args.moves.now c.loop-node.moves (c.loop-node.invariant.price h)
+    λ h. costs_so_far term_count 1 (map shape c.args.nodes.now.items) c.loop-node.node-index c.args.moves.now c.loop-node.moves (c.loop-node.invariant.price h)
 
 pub last_skip-loop-node-preserved : goal.last_skip-loop-node-preserved
 last_skip-loop-node-preserved g t c =
@@ -158,9 +160,9 @@ last_skip-loop-node-preserved g t c =
           (latest (map (λ node. skip doc c.args.part (shape node)) nodes)) same within c.node-item.is
           (ap Some c.greater-last.ensures ∙ ap (later (Some c.loop-node.last)) (sym c.in-Some.is ∙ c.skip.ensures.says)) c.loop-node.invariant.skip;
       price = λ h.
-          one_more (run_cost term_count) (map shape nodes) i c.args.moves.now (shape node) c.loop-node.moves c.skip.new.moves (omega (arith, within, long, many)) at
+          one_more (run_cost term_count 1) (map shape nodes) i c.args.moves.now (shape node) c.loop-node.moves c.skip.new.moves (omega (arith, within, long, many)) at
           (c.loop-node.invariant.price h)
-          (c.skip.ensures.price (subst (λ own. is_cheap_shape own ≡ true) (sym at) (each_cheap (map shape nodes) h i (shape node) (omega (arith, within, long, many)))));
+          (c.skip.ensures.price (subst (λ own. is_cheap_shape true own ≡ true) (sym at) (each_cheap true (map shape nodes) h i (shape node) (omega (arith, within, long, many)))));
       grown = omega (arith, c.loop-node.invariant.grown, c.skip.ensures.grown);
     }
 
@@ -175,11 +177,11 @@ last_skip-returns-in-None-clause-price g t c =
     let at : shape node ≡ get_or (map shape nodes) i (shape node) = part_at shape nodes (map shape nodes) i node refl (c.node-item.is ∙ ap (λ l. get_or l i node) same) in
     let many = length-map nodes shape in
     λ h.
-    costs_so_far term_count (map shape nodes) (i + 1) c.args.moves.now c.skip.new.moves
-    (one_more (run_cost term_count) (map shape nodes) i c.args.moves.now (shape node) c.loop-node.moves c.skip.new.moves (omega (arith, within, long, many)) at
+    costs_so_far term_count 1 (map shape nodes) (i + 1) c.args.moves.now c.skip.new.moves
+    (one_more (run_cost term_count 1) (map shape nodes) i c.args.moves.now (shape node) c.loop-node.moves c.skip.new.moves (omega (arith, within, long, many)) at
     (c.loop-node.invariant.price h)
-    (c.skip.ensures.price (subst (λ own. is_cheap_shape own ≡ true) (sym at) (each_cheap (map shape nodes) h i (shape node) (omega (arith, within, long, many))))))
+    (c.skip.ensures.price (subst (λ own. is_cheap_shape true own ≡ true) (sym at) (each_cheap true (map shape nodes) h i (shape node) (omega (arith, within, long, many))))))
 
 pub last_skip-returns-clause-price : goal.last_skip-returns-clause-price
 last_skip-returns-clause-price g t c =
-    λ h. costs_so_far term_count (map shape c.args.nodes.now.items) c.loop-node.node-index c.args.moves.now c.loop-node.moves (c.loop-node.invariant.price h)
+    λ h. costs_so_far term_count 1 (map shape c.args.nodes.now.items) c.loop-node.node-index c.args.moves.now c.loop-node.moves (c.loop-node.invariant.price h)

@@ -13,7 +13,7 @@ abbrev pub invariant-first_skip-loop-node : goal.invariant-first_skip-loop-node
 invariant-first_skip-loop-node g l = record {
   skip : fold sooner l.first (map (λ node. skip l.doc.0 l.part (shape node)) (drop l.node-index l.nodes.items))
       ≡ soonest (map (λ node. skip l.doc.0 l.part (shape node)) l.nodes.items);
-  price : are_cheap_shapes (shapes_of (map shape l.nodes.items)) ≡ true → l.moves ≤ l.fn.moves + sum_by (run_cost term_count) (take l.node-index (map shape l.nodes.items));
+  price : are_cheap_shapes true (shapes_of (map shape l.nodes.items)) ≡ true → l.moves ≤ l.fn.moves + sum_by (run_cost term_count 1) (take l.node-index (map shape l.nodes.items));
   grown : l.fn.moves ≤ l.moves;
 }
 
@@ -21,6 +21,6 @@ abbrev pub invariant-last_skip-loop-node : goal.invariant-last_skip-loop-node
 invariant-last_skip-loop-node g l = record {
   skip : fold later (Some l.last) (map (λ node. skip l.doc.0 l.part (shape node)) (drop l.node-index l.nodes.items))
       ≡ latest (map (λ node. skip l.doc.0 l.part (shape node)) l.nodes.items);
-  price : are_cheap_shapes (shapes_of (map shape l.nodes.items)) ≡ true → l.moves ≤ l.fn.moves + sum_by (run_cost term_count) (take l.node-index (map shape l.nodes.items));
+  price : are_cheap_shapes true (shapes_of (map shape l.nodes.items)) ≡ true → l.moves ≤ l.fn.moves + sum_by (run_cost term_count 1) (take l.node-index (map shape l.nodes.items));
   grown : l.fn.moves ≤ l.moves;
 }

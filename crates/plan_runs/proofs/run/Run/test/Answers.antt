@@ -3,7 +3,7 @@ use Rattle.std.proofs.Common.{◌≡◌, ◌≤◌, ◌+◌, ◌∙◌, ℕ, tru
 use Rattle.all_matches.specs.Meaning.{sat}
 use Rattle.index_meaning.specs.Documents.{Numbered, document_at, has_document, token_count}
 use Rattle.index_phrases.specs.Tokens.{span_tokens}
-use Rattle.plan_compiler.specs.CheapSelections.{is_cheap}
+use Rattle.plan_compiler.specs.CheapSelections.{is_cheap, is_cheap_or_counted}
 use Rattle.plan_compiler.specs.Lexicon.{lexicon}
 use Rattle.plan_compiler.specs.PlanMeaning.{plan_form, plan_lists}
 use Rattle.plan_runs.specs.RunPrice.{price_at}
@@ -17,7 +17,7 @@ use Rattle.plan_runs.specs.steps.RunShapes.{shape}
 use Rattle.plan_runs.specs.steps.RunSkips.{skip}
 use Rattle.plan_runs.specs.declared.asked_place.AskedPlace.{AskedPlace}
 use Rattle.plan_runs.proofs.RuledOutLaw.{none_skipped}
-use Rattle.plan_runs.proofs.RunLaw.{price_law, run_law}
+use Rattle.plan_runs.proofs.RunLaw.{counted_law, price_law, run_law}
 use Rattle.plan_runs.proofs.run.Run.test.Goals as goal
 
 pub returns-then-holds-clause-says : goal.returns-then-holds-clause-says
@@ -80,9 +80,25 @@ returns-then-node_holds-clause-price g c cheap =
     let place : AskedPlace =
     record { version = inside.version; doc = c.args.doc; span = c.args.span; there = asked.there; first = asked.inside.first; order = asked.inside.order; last = asked.inside.last } in
     let own : is_cheap (lexicon (plan_lists inside.plan.now)) (plan_form inside.plan.now) ≡ true = ap (λ (run : RunMeaning). is_cheap (lexicon run.lists) run.form) c.self.view_is ∙ cheap in
-    let moved : is_cheap_shape (shape inside.root) ≡ true → c.node_holds.new.moves ≤ c.args.moves.now + run_cost (moves_for place) (shape inside.root) + run_cost term_count (shape inside.root) =
+    let moved : is_cheap_shape true (shape inside.root) ≡ true → c.node_holds.new.moves ≤ c.args.moves.now + run_cost (moves_for place) 2 (shape inside.root) + run_cost term_count 1 (shape inside.root) =
     λ h. omega (arith, c.node_holds.ensures.price h) in
-    let most = price_law inside.plan.now (shape inside.root) place c.args.moves.now c.node_holds.new.moves own moved c.self.invariant.0 in
+    let most = price_law inside.plan.now (shape inside.root) place c.self.invariant.0 c.args.moves.now c.node_holds.new.moves moved own in
+    let same = ap (λ (run : RunMeaning). price_at run c.args.doc.0 c.args.span) c.self.view_is in
+    omega (arith, most, same)
+
+pub returns-then-node_holds-clause-counted : goal.returns-then-node_holds-clause-counted
+returns-then-node_holds-clause-counted g c cheap =
+    let inside = c.self.inside in
+    let version = ap (λ (run : RunMeaning). run.version) c.self.view_is in
+    let asked : IsAsked inside.version.now (record { doc = c.args.doc.0; span = c.args.span }) =
+    subst (λ (v : List Numbered). IsAsked v (record { doc = c.args.doc.0; span = c.args.span })) (sym version)
+    (record { there = c.requires.there; inside = record { first = c.requires.inside.0; order = c.requires.inside.1; last = c.requires.inside.2 } }) in
+    let place : AskedPlace =
+    record { version = inside.version; doc = c.args.doc; span = c.args.span; there = asked.there; first = asked.inside.first; order = asked.inside.order; last = asked.inside.last } in
+    let own : is_cheap_or_counted (lexicon (plan_lists inside.plan.now)) (plan_form inside.plan.now) ≡ true = ap (λ (run : RunMeaning). is_cheap_or_counted (lexicon run.lists) run.form) c.self.view_is ∙ cheap in
+    let moved : is_cheap_shape true (shape inside.root) ≡ true → c.node_holds.new.moves ≤ c.args.moves.now + run_cost (moves_for place) 2 (shape inside.root) + run_cost term_count 1 (shape inside.root) =
+    λ h. omega (arith, c.node_holds.ensures.price h) in
+    let most = counted_law inside.plan.now (shape inside.root) place c.self.invariant.0 c.args.moves.now c.node_holds.new.moves moved own in
     let same = ap (λ (run : RunMeaning). price_at run c.args.doc.0 c.args.span) c.self.view_is in
     omega (arith, most, same)
 
@@ -96,9 +112,25 @@ returns-then-pauses-clause-price g c cheap =
     let place : AskedPlace =
     record { version = inside.version; doc = c.args.doc; span = c.args.span; there = asked.there; first = asked.inside.first; order = asked.inside.order; last = asked.inside.last } in
     let own : is_cheap (lexicon (plan_lists inside.plan.now)) (plan_form inside.plan.now) ≡ true = ap (λ (run : RunMeaning). is_cheap (lexicon run.lists) run.form) c.self.view_is ∙ cheap in
-    let moved : is_cheap_shape (shape inside.root) ≡ true → c.node_holds.new.moves ≤ c.args.moves.now + run_cost (moves_for place) (shape inside.root) + run_cost term_count (shape inside.root) =
+    let moved : is_cheap_shape true (shape inside.root) ≡ true → c.node_holds.new.moves ≤ c.args.moves.now + run_cost (moves_for place) 2 (shape inside.root) + run_cost term_count 1 (shape inside.root) =
     λ h. omega (arith, c.node_holds.ensures.price h) in
-    let most = price_law inside.plan.now (shape inside.root) place c.args.moves.now c.node_holds.new.moves own moved c.self.invariant.0 in
+    let most = price_law inside.plan.now (shape inside.root) place c.self.invariant.0 c.args.moves.now c.node_holds.new.moves moved own in
+    let same = ap (λ (run : RunMeaning). price_at run c.args.doc.0 c.args.span) c.self.view_is in
+    omega (arith, most, same)
+
+pub returns-then-pauses-clause-counted : goal.returns-then-pauses-clause-counted
+returns-then-pauses-clause-counted g c cheap =
+    let inside = c.self.inside in
+    let version = ap (λ (run : RunMeaning). run.version) c.self.view_is in
+    let asked : IsAsked inside.version.now (record { doc = c.args.doc.0; span = c.args.span }) =
+    subst (λ (v : List Numbered). IsAsked v (record { doc = c.args.doc.0; span = c.args.span })) (sym version)
+    (record { there = c.requires.there; inside = record { first = c.requires.inside.0; order = c.requires.inside.1; last = c.requires.inside.2 } }) in
+    let place : AskedPlace =
+    record { version = inside.version; doc = c.args.doc; span = c.args.span; there = asked.there; first = asked.inside.first; order = asked.inside.order; last = asked.inside.last } in
+    let own : is_cheap_or_counted (lexicon (plan_lists inside.plan.now)) (plan_form inside.plan.now) ≡ true = ap (λ (run : RunMeaning). is_cheap_or_counted (lexicon run.lists) run.form) c.self.view_is ∙ cheap in
+    let moved : is_cheap_shape true (shape inside.root) ≡ true → c.node_holds.new.moves ≤ c.args.moves.now + run_cost (moves_for place) 2 (shape inside.root) + run_cost term_count 1 (shape inside.root) =
+    λ h. omega (arith, c.node_holds.ensures.price h) in
+    let most = counted_law inside.plan.now (shape inside.root) place c.self.invariant.0 c.args.moves.now c.node_holds.new.moves moved own in
     let same = ap (λ (run : RunMeaning). price_at run c.args.doc.0 c.args.span) c.self.view_is in
     omega (arith, most, same)
 
@@ -112,12 +144,31 @@ returns-clause-price g c cheap =
     let place : AskedPlace =
     record { version = inside.version; doc = c.args.doc; span = c.args.span; there = asked.there; first = asked.inside.first; order = asked.inside.order; last = asked.inside.last } in
     let own : is_cheap (lexicon (plan_lists inside.plan.now)) (plan_form inside.plan.now) ≡ true = ap (λ (run : RunMeaning). is_cheap (lexicon run.lists) run.form) c.self.view_is ∙ cheap in
-    let moved : is_cheap_shape (shape inside.root) ≡ true → c.skip_from-to.new.moves ≤ c.args.moves.now + run_cost (moves_for place) (shape inside.root) + run_cost term_count (shape inside.root) =
+    let moved : is_cheap_shape true (shape inside.root) ≡ true → c.skip_from-to.new.moves ≤ c.args.moves.now + run_cost (moves_for place) 2 (shape inside.root) + run_cost term_count 1 (shape inside.root) =
     λ h.
-    let looked = c.skip_from-to.ensures.price (ap is_cheap_shape c.node_holds.ensures.same ∙ h) in
-    let terms = ap (run_cost term_count) c.node_holds.ensures.same in
+    let looked = c.skip_from-to.ensures.price (ap (is_cheap_shape true) c.node_holds.ensures.same ∙ h) in
+    let terms = ap (run_cost term_count 1) c.node_holds.ensures.same in
     omega (arith, c.node_holds.ensures.price h, looked, terms) in
-    let most = price_law inside.plan.now (shape inside.root) place c.args.moves.now c.skip_from-to.new.moves own moved c.self.invariant.0 in
+    let most = price_law inside.plan.now (shape inside.root) place c.self.invariant.0 c.args.moves.now c.skip_from-to.new.moves moved own in
+    let same = ap (λ (run : RunMeaning). price_at run c.args.doc.0 c.args.span) c.self.view_is in
+    omega (arith, most, same)
+
+pub returns-clause-counted : goal.returns-clause-counted
+returns-clause-counted g c cheap =
+    let inside = c.self.inside in
+    let version = ap (λ (run : RunMeaning). run.version) c.self.view_is in
+    let asked : IsAsked inside.version.now (record { doc = c.args.doc.0; span = c.args.span }) =
+    subst (λ (v : List Numbered). IsAsked v (record { doc = c.args.doc.0; span = c.args.span })) (sym version)
+    (record { there = c.requires.there; inside = record { first = c.requires.inside.0; order = c.requires.inside.1; last = c.requires.inside.2 } }) in
+    let place : AskedPlace =
+    record { version = inside.version; doc = c.args.doc; span = c.args.span; there = asked.there; first = asked.inside.first; order = asked.inside.order; last = asked.inside.last } in
+    let own : is_cheap_or_counted (lexicon (plan_lists inside.plan.now)) (plan_form inside.plan.now) ≡ true = ap (λ (run : RunMeaning). is_cheap_or_counted (lexicon run.lists) run.form) c.self.view_is ∙ cheap in
+    let moved : is_cheap_shape true (shape inside.root) ≡ true → c.skip_from-to.new.moves ≤ c.args.moves.now + run_cost (moves_for place) 2 (shape inside.root) + run_cost term_count 1 (shape inside.root) =
+    λ h.
+    let looked = c.skip_from-to.ensures.price (ap (is_cheap_shape true) c.node_holds.ensures.same ∙ h) in
+    let terms = ap (run_cost term_count 1) c.node_holds.ensures.same in
+    omega (arith, c.node_holds.ensures.price h, looked, terms) in
+    let most = counted_law inside.plan.now (shape inside.root) place c.self.invariant.0 c.args.moves.now c.skip_from-to.new.moves moved own in
     let same = ap (λ (run : RunMeaning). price_at run c.args.doc.0 c.args.span) c.self.view_is in
     omega (arith, most, same)
 
