@@ -1,0 +1,5 @@
+mod ShowableLemmas
+mod ShownRunViews
+mod OpeningLemmas
+mod PuttingLemmas
+mod MarksLemmas

@@ -1,0 +1,2 @@
+pub mod MarksMeaning
+pub mod steps

@@ -1,0 +1,16 @@
+//! The best hits of selections that texts satisfy, by the index: the places of the words by which it is shown why a text does.
+//!
+//! Which selections can be shown (`showable`), and their marks over a version of the index (`marks`). A selection is compiled to be
+//! shown, and opened over the version (`shown`, `opening`): words to a walk of which the first ways are shown, a choice to parts of
+//! which the first one is shown that holds, and a filter or `not in` to a walk of which the least clean way is. The places are put into
+//! one list (`putting`).
+#![tactic(auto)]
+
+mod marks;
+mod opening;
+mod putting;
+mod showable;
+mod shown;
+
+pub use marks::Marks;
+pub use showable::can_show;
