@@ -34,6 +34,7 @@ is_readable (command.Thesaurus name block) = is_name name
 is_readable (command.Query path) = not (is_empty path)
 is_readable (command.QueryAt name path) = is_name name && not (is_empty path)
 is_readable (command.Print path) = not (is_empty path)
+is_readable (command.Show path) = not (is_empty path)
 is_readable (command.Mark name) = is_name name
 is_readable (command.Unmark name) = is_name name
 is_readable (command.Watch name path) = is_name name && not (is_empty path)

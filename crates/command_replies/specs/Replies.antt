@@ -1,5 +1,5 @@
 -- The text of a reply.
-use Rattle.std.specs.Prelude.{ℕ, Bool, true, false, List, [], ◌∷◌, ◌++◌, length, codes}
+use Rattle.std.specs.Prelude.{ℕ, ◌/◌, Bool, true, false, List, [], ◌∷◌, ◌++◌, length, codes}
 use Rattle.std.specs.List.{flat_map}
 use Rattle.std.specs.Fmt.{decimal}
 use Rattle.doc_profile.specs.declared.fault.DocFault.{DocFault}
@@ -72,10 +72,19 @@ refusal_line refusal.NoTarget = codes "! 10 no target"
 refusal_line (refusal.ManyTargets count) = codes "! 11 many targets: " ++ decimal count
 refusal_line refusal.RootTarget = codes "! 12 root target"
 refusal_line (refusal.Limit what) = codes "! 13 limit: " ++ limit_words what
+refusal_line refusal.NothingToShow = codes "! 15 nothing to show"
+
+-- a number, and lines
+abbrev pub numbered_lines : ℕ → List (List ℕ) → List ℕ
+numbered_lines number lines = ended_line (codes "= " ++ decimal number) ++ flat_map ended_line lines
 
 -- how many lines follow, and these lines
 abbrev pub counted_lines : List (List ℕ) → List ℕ
-counted_lines lines = ended_line (codes "= " ++ decimal (length lines)) ++ flat_map ended_line lines
+counted_lines lines = numbered_lines (length lines) lines
+
+-- how many pairs of lines follow, and these lines
+abbrev pub counted_pairs : List (List ℕ) → List ℕ
+counted_pairs lines = numbered_lines (length lines / 2) lines
 
 abbrev pub counts_line : Counts → List ℕ
 counts_line counts =
@@ -87,6 +96,7 @@ abbrev pub reply_text : Reply → List ℕ
 reply_text reply.Done = ended_line (codes "ok")
 reply_text (reply.Nodes lines) = counted_lines lines
 reply_text (reply.Texts lines) = counted_lines lines
+reply_text (reply.Shown lines) = counted_pairs lines
 reply_text (reply.Changed lines) = counted_lines lines
 reply_text (reply.Explained text) = ended_line (codes "= " ++ text)
 reply_text (reply.Counts counts) = ended_line (counts_line counts)

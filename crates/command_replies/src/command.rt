@@ -30,6 +30,8 @@ pub enum Command {
     QueryAt { name: Line, path: Line },
     /// Print the nodes as text.
     Print { path: Line },
+    /// Print the nodes that the path selects, each with its words, of which those are marked that meet the path's last test.
+    Show { path: Line },
     /// Keep the collection as it is under the name.
     Mark { name: Line },
     /// Give the mark up.

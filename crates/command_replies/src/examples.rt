@@ -1,4 +1,4 @@
-//! The commands and replies of watches, by computation.
+//! The commands and replies of watches, and of nodes that are shown, by computation.
 
 ghost use Rattle.std.specs.Prelude.{◌≡◌, ◌∷◌, [], codes, false, true};
 ghost use Rattle.command_replies.specs.declared.command.Command.TheVariants as command;
@@ -25,4 +25,19 @@ pub fn watches_that_are_read()
     ensures no_name_to_tell { is_readable (command.Changes []) ≡ false }
     ensures no_name_to_give_up { is_readable (command.Unwatch []) ≡ false }
     ensures block { block_length (command.Watch (codes "w") (codes "//p")) ≡ 0 }
+{}
+
+/// A node is shown by two lines, and counts once.
+pub fn texts_of_shown_nodes()
+    ensures pairs { reply_text (reply.Shown (codes "a" ∷ codes "[x] y" ∷ codes "b" ∷ [] ∷ [])) ≡ codes "= 2\na\n[x] y\nb\n\n" }
+    ensures no_pairs { reply_text (reply.Shown []) ≡ codes "= 0\n" }
+    ensures answers { is_refusal (reply.Shown []) ≡ false }
+    ensures nothing { refusal_line refusal.NothingToShow ≡ codes "! 15 nothing to show" }
+{}
+
+/// Where nodes are shown, a path says which; no block follows it.
+pub fn paths_that_are_shown()
+    ensures path { is_readable (command.Show (codes "//p")) ≡ true }
+    ensures no_path { is_readable (command.Show []) ≡ false }
+    ensures block { block_length (command.Show (codes "//p")) ≡ 0 }
 {}

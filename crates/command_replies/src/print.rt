@@ -1,7 +1,7 @@
 ghost use Rattle.std.specs.Prelude.{◌≡◌, ◌++◌, codes, length, string_bytes, IfOk, OnOk};
 ghost use Rattle.std.specs.Fmt.{decimal};
-ghost use Rattle.command_replies.specs.Replies.{counted_lines, counts_line, document_words, ended_line, full_words};
-ghost use Rattle.command_replies.specs.Replies.{limit_words, query_words, refusal_line, reply_text};
+ghost use Rattle.command_replies.specs.Replies.{counted_lines, counted_pairs, counts_line, document_words, ended_line, full_words};
+ghost use Rattle.command_replies.specs.Replies.{limit_words, numbered_lines, query_words, refusal_line, reply_text};
 
 use crate::{Counts, FullOf, LimitOf, MAX_WATCHES, Refusal, Reply};
 use doc_profile::DocFault;
@@ -15,9 +15,10 @@ pub fn print_reply(alloc: Global, reply: &Reply) -> Result<Line, Memory>
 {
     match reply {
         Reply::Done => Ok(Line::read(alloc, "ok\n")?),
-        Reply::Nodes(lines) => print_lines(alloc, lines),
-        Reply::Texts(lines) => print_lines(alloc, lines),
-        Reply::Changed(lines) => print_lines(alloc, lines),
+        Reply::Nodes(lines) => print_counted(alloc, lines),
+        Reply::Texts(lines) => print_counted(alloc, lines),
+        Reply::Shown(lines) => print_pairs(alloc, lines),
+        Reply::Changed(lines) => print_counted(alloc, lines),
         Reply::Explained(text) => print_named(alloc, "= ", text.as_str()),
         Reply::Counts(counts) => print_counts(alloc, counts),
         Reply::Refused(refusal) => print_refusal(alloc, refusal),
@@ -25,12 +26,25 @@ pub fn print_reply(alloc: Global, reply: &Reply) -> Result<Line, Memory>
 }
 
 /// How many lines there are, and the lines.
-fn print_lines(alloc: Global, lines: &TextList) -> Result<Line, Memory>
+fn print_counted(alloc: Global, lines: &TextList) -> Result<Line, Memory>
     ensures { IfOk result (λ text. text ≡ counted_lines lines.now) }
 {
-    let count = lines.len();
+    print_lines(alloc, lines.len(), lines)
+}
+
+/// How many pairs of lines there are, and the lines.
+fn print_pairs(alloc: Global, lines: &TextList) -> Result<Line, Memory>
+    ensures { IfOk result (λ text. text ≡ counted_pairs lines.now) }
+{
+    print_lines(alloc, lines.len() / 2, lines)
+}
+
+/// A number, and the lines.
+fn print_lines(alloc: Global, count: usize, lines: &TextList) -> Result<Line, Memory>
+    ensures { IfOk result (λ text. text ≡ numbered_lines count lines.now) }
+{
     let mut text = format!(in alloc; "= {count}\n")?;
-    for number in 0..count {
+    for number in 0..lines.len() {
         text.push_str(lines.get(number))?;
         text.push('\n')?;
     }
@@ -98,6 +112,7 @@ fn print_refusal(alloc: Global, refusal: &Refusal) -> Result<Line, Memory>
         Refusal::ManyTargets { count } => print_numbered(alloc, "! 11 many targets: ", *count),
         Refusal::RootTarget => print_named(alloc, "! 12 ", "root target"),
         Refusal::Limit { what } => print_named(alloc, "! 13 limit: ", limit(*what)),
+        Refusal::NothingToShow => print_named(alloc, "! 15 ", "nothing to show"),
     }
 }
 

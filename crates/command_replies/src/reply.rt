@@ -14,6 +14,8 @@ pub enum Reply {
     Nodes(TextList),
     /// The selected nodes, each printed in one line.
     Texts(TextList),
+    /// Two lines for each selected node: the line that names it, and one with its words, of which the marked ones stand in brackets.
+    Shown(TextList),
     /// The lines that name nodes which a watch's path selects no longer, each behind `- `, then those which it selects only now, each behind `+ `.
     Changed(TextList),
     /// The printed form of the rewritten selection.
@@ -89,6 +91,8 @@ pub enum Refusal {
     RootTarget,
     /// A document would have too many levels, nodes or tokens.
     Limit { what: LimitOf },
+    /// The path doesn't end in a test whose words can be marked.
+    NothingToShow,
 }
 
 impl Reply {

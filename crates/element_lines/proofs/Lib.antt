@@ -2,6 +2,7 @@ pub mod ChildLemmas
 pub mod FewLemmas
 pub mod SiblingLemmas
 pub mod KeptLemmas
+pub mod MarkedLemmas
 pub mod CountLemmas
 pub mod NameLemmas
 pub mod NumberLemmas

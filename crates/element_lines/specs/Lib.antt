@@ -1,4 +1,5 @@
 pub mod Examples
 pub mod Lines
 pub mod LocationSteps
+pub mod Marked
 pub mod steps

@@ -3,3 +3,5 @@ pub mod Leading
 pub mod Numbers
 pub mod Children
 pub mod Known
+pub mod LineWords
+pub mod SpanEnds

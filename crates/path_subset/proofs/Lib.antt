@@ -1,6 +1,7 @@
 pub mod Frames
 pub mod Turns
 pub mod Skipped
+pub mod ShownLemmas
 pub mod Extents
 pub mod Everywhere
 pub mod Runs

@@ -1,5 +1,7 @@
+pub mod Examples
 pub mod Limits
 pub mod Paths
+pub mod Shown
 pub mod Answer
 pub mod Spelled
 pub mod Runs

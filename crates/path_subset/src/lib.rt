@@ -4,11 +4,13 @@
 mod building;
 mod closing;
 mod conditions;
+pub mod examples;
 mod heads;
 pub mod laws;
 mod limits;
 mod path;
 mod read;
+mod shown;
 mod state;
 mod stepping;
 mod turn;

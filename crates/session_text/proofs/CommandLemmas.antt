@@ -5,7 +5,7 @@ use Rattle.ft_base.specs.Lists.{is_empty}
 use Rattle.command_replies.specs.declared.command.Command.{Command}
 use Rattle.command_replies.specs.declared.command.Command.TheVariants as command
 use Rattle.plain_tree.specs.declared.place.How.{How}
-use Rattle.session_text.specs.LineCommands.{block_command, command_of_block, command_of_line, command_of_sized_block, how_of, insertion, made, named, named_with_path, query, quoted_name, quoted_name_and_path, watch_command, with_text}
+use Rattle.session_text.specs.LineCommands.{block_command, command_of_block, command_of_line, command_of_sized_block, how_of, insertion, made, named, named_with_path, query, quoted_name, quoted_name_and_path, second_command, watch_command, with_text}
 use Rattle.session_text.specs.Quoted.{is_quoted, quoted}
 use Rattle.text_lines.specs.Lines.{trimmed_line, first_word, after_first_word}
 use Rattle.command_replies.specs.Names.{is_bare_name, is_name, is_quoted_name}
@@ -96,6 +96,7 @@ pub record HoldsOfLines (P : Command → Type 0) : Type 0 where
   pub stats : P command.Stats
   pub delete : (path : List ℕ) → is_empty path ≡ false → P (command.Delete path)
   pub print : (path : List ℕ) → is_empty path ≡ false → P (command.Print path)
+  pub show : (path : List ℕ) → is_empty path ≡ false → P (command.Show path)
   pub explain : (text : List ℕ) → is_empty text ≡ false → P (command.Explain text)
   pub query : (path : List ℕ) → is_empty path ≡ false → P (command.Query path)
   pub watch : (name path : List ℕ) → is_name name ≡ true → is_empty path ≡ false → P (command.Watch name path)
@@ -126,6 +127,10 @@ watch_holds P h number word rest =
     (chosen P (is_text word (codes "changes")) _ _ (of_name P true number rest command.Changes h.bad h.bad_name h.changes)
     (chosen P (is_text word (codes "unwatch")) _ _ (of_name P true number rest command.Unwatch h.bad h.bad_name h.unwatch) (h.bad number)))
 
+second_holds : (P : Command → Type 0) → HoldsOfLines P → (number : ℕ) (word rest : List ℕ) → P (second_command number word rest)
+second_holds P h number word rest =
+    chosen P (is_text word (codes "show")) _ _ (of_text P number rest command.Show h.bad h.show) (watch_holds P h number word rest)
+
 pub holds_of_line : (P : Command → Type 0) → HoldsOfLines P → (second : Bool) (number : ℕ) (line : List ℕ) → P (command_of_line second number line)
 holds_of_line P h second number line =
     let word = first_word (trimmed_line line) in
@@ -139,7 +144,7 @@ holds_of_line P h second number line =
     (chosen P (is_text word (codes "mark")) _ _ (of_name P second number rest command.Mark h.bad h.bad_name h.mark)
     (chosen P (is_text word (codes "unmark")) _ _ (of_name P second number rest command.Unmark h.bad h.bad_name h.unmark)
     (chosen P (is_text word (codes "stats")) _ _ (chosen P (is_empty rest) _ _ h.stats (h.bad number))
-    (chosen P second _ _ (watch_holds P h number word rest) (h.bad number))))))))))
+    (chosen P second _ _ (second_holds P h number word rest) (h.bad number))))))))))
     (h.bad number)
 
 insertion_holds : (P : Command → Type 0) (block : List ℕ) → HoldsOfBlocks P block → (number : ℕ) (where_to : Option How) (path : List ℕ) → P (insertion number where_to path block)

@@ -116,13 +116,19 @@ query quotes number rest =
     if is_text (first_word rest) (codes "at") then named_with_path quotes number (after_first_word rest) command.QueryAt
     else with_text number rest command.Query
 
--- the commands of watches, which stand in sessions of format 2 alone
+-- the commands of watches
 abbrev pub watch_command : ℕ → List ℕ → List ℕ → Command
 watch_command number word rest =
     if is_text word (codes "watch") then named_with_path true number rest command.Watch
     else if is_text word (codes "changes") then named true number rest command.Changes
     else if is_text word (codes "unwatch") then named true number rest command.Unwatch
     else command.BadCommand number
+
+-- the commands that stand in sessions of format 2 alone
+abbrev pub second_command : ℕ → List ℕ → List ℕ → Command
+second_command number word rest =
+    if is_text word (codes "show") then with_text number rest command.Show
+    else watch_command number word rest
 
 -- The command with that first word and that rest, without a block. The test says whether the session is of format 2, in which names may
 -- stand in quotation marks.
@@ -132,7 +138,7 @@ name_command second number word rest =
     else if is_text word (codes "mark") then named second number rest command.Mark
     else if is_text word (codes "unmark") then named second number rest command.Unmark
     else if is_text word (codes "stats") then alone number rest command.Stats
-    else if second then watch_command number word rest
+    else if second then second_command number word rest
     else command.BadCommand number
 
 abbrev pub line_command : Bool → ℕ → List ℕ → List ℕ → Command

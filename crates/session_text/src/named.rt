@@ -225,6 +225,16 @@ pub(crate) fn read_print(alloc: Global, number: u64, rest: &str) -> Result<Comma
     })
 }
 
+/// `show PATH`.
+pub(crate) fn read_show(alloc: Global, number: u64, rest: &str) -> Result<Command, Memory>
+    ensures { IfOk result (λ command. command ≡ with_text number rest.now (λ path. Command.Show path)) }
+{
+    Ok(match read_text(alloc, number, rest)? {
+        Ok(path) => Command::Show { path },
+        Err(fault) => fault,
+    })
+}
+
 /// `explain TEXT`.
 pub(crate) fn read_explain(alloc: Global, number: u64, rest: &str) -> Result<Command, Memory>
     ensures { IfOk result (λ command. command ≡ with_text number rest.now (λ text. Command.Explain text)) }

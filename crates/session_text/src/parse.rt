@@ -2,7 +2,7 @@ ghost use Rattle.std.specs.Prelude.{◌≡◌, ◌≤◌, false, true, IfOk, IfS
 ghost use Rattle.text_lines.specs.Lines.{is_skipped, trimmed_line};
 ghost use Rattle.session_text.specs.LineCommands.{alone as made_alone, block_command, command_of_block, command_of_line, command_of_sized_block, how_of, insertion};
 ghost use Rattle.session_text.specs.LineCommands.{line_command, list_command, name_command, opens_block as block_follows};
-ghost use Rattle.session_text.specs.LineCommands.{opens_sized_block as sized_block_follows, query, watch_command};
+ghost use Rattle.session_text.specs.LineCommands.{opens_sized_block as sized_block_follows, query, second_command, watch_command};
 ghost use Rattle.ft_base.specs.Limits.{max_session_bytes};
 ghost use Rattle.session_text.specs.SizedBlocks.{block_size};
 ghost use Rattle.session_text.specs.Words.{is_command_line};
@@ -10,7 +10,7 @@ ghost use Rattle.session_text.specs.Words.{is_command_line};
 use crate::line::is_word;
 use crate::named::{
     read_changes, read_delete, read_drop, read_explain, read_insert, read_load, read_mark,
-    read_plain_query, read_print, read_replace, read_stop, read_thesaurus, read_unmark,
+    read_plain_query, read_print, read_replace, read_show, read_stop, read_thesaurus, read_unmark,
     read_unwatch,
 };
 use crate::named_with_path::{read_query_at, read_watch};
@@ -139,6 +139,21 @@ fn read_watch_command(alloc: Global, number: u64, word: &str, rest: &str) -> Res
     Ok(Command::BadCommand { line: number })
 }
 
+/// The command with that first word and that rest, of those that stand in sessions of format 2 alone.
+fn read_second_command(
+    alloc: Global,
+    number: u64,
+    word: &str,
+    rest: &str,
+) -> Result<Command, Memory>
+    ensures { IfOk result (λ command. command ≡ second_command number word.now rest.now) }
+{
+    if word == "show" {
+        return read_show(alloc, number, rest);
+    }
+    read_watch_command(alloc, number, word, rest)
+}
+
 /// The command with that first word and that rest, without a block, in a session of format 2 or of format 1.
 fn read_name_command(
     alloc: Global,
@@ -162,7 +177,7 @@ fn read_name_command(
         return Ok(alone(number, rest, Command::Stats));
     }
     if second {
-        return read_watch_command(alloc, number, word, rest);
+        return read_second_command(alloc, number, word, rest);
     }
     Ok(Command::BadCommand { line: number })
 }
