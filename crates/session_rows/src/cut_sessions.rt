@@ -77,6 +77,7 @@ fn show(out: &mut Vec<u8>, command: &Command) -> Result<(), AllocError> {
         Command::Query { path } => named(out, "query", path),
         Command::QueryAt { name, path } => named_with_path(out, "query at", name, path),
         Command::Print { path } => named(out, "print", path),
+        Command::Show { path } => named(out, "show", path),
         Command::Mark { name } => named(out, "mark", name),
         Command::Unmark { name } => named(out, "unmark", name),
         Command::Watch { name, path } => named_with_path(out, "watch", name, path),
@@ -219,7 +220,7 @@ const COMMANDS: [CutRow; 14] = [
 ];
 
 /// Sessions of format 2, and their commands.
-const SIZED_COMMANDS: [CutRow; 18] = [
+const SIZED_COMMANDS: [CutRow; 19] = [
     (b"session 2", b""),
     (b"\xEF\xBB\xBFsession 2\r\nstats", b"|stats"),
     (b" session 2\nstats", b"|bad command|1|stats"),
@@ -276,6 +277,10 @@ const SIZED_COMMANDS: [CutRow; 18] = [
         b"|query at|m m|//p|bad command|3|bad command|4|bad name|5|query at|m|//p|bad command|7|bad name|8",
     ),
     (b"session 2\nload 3 x\nab", b"|bad command|2"),
+    (
+        b"session 2\nshow //p q\r\nshow\nshow 1 //p\n\nshow at \"m\" //p",
+        b"|show|//p q|bad command|3|show|1 //p|show|at \"m\" //p",
+    ),
     (
         b"session 2\nwatch w //p\nwatch \"w w\" //p q\r\nwatch w\nchanges \"w w\"\nchanges w x\nunwatch w\nunwatch \"w\tw\"\nwatch 1 //p",
         b"|watch|w|//p|watch|w w|//p q|bad command|4|changes|w w|bad command|6|unwatch|w|bad name|8|watch|1|//p",

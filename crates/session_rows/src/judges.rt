@@ -273,6 +273,46 @@ fn what_a_path_selects_follows_its_judge(rt: HostRuntime) -> Result<(), Fail> {
     Ok(())
 }
 
+const SHOWN_LOAD: &str = "session 2\nload 25 one\n<a>Hello <b>world</b></a>\n";
+
+const MARKED: &str = "= 1\ndoc(\"one\")/a[1]\n[Hello] world\n";
+
+const UNMARKED: &str = "= 1\ndoc(\"one\")/a[1]\nHello world\n";
+
+const UNMARKED_B: &str = "= 1\ndoc(\"one\")/a[1]/b[1]\nworld\n";
+
+const JUDGED_SHOWN: [JudgedRow; 3] = [
+    (
+        "show collection()/a[. contains text \"hello\"]",
+        MARKED,
+        NONE,
+        MARKED,
+    ),
+    (
+        "show collection()/a[. contains text \"bye\"]",
+        NONE,
+        UNMARKED,
+        UNMARKED,
+    ),
+    (
+        "show collection()//b[. contains text \"hello\"]",
+        NONE,
+        UNMARKED_B,
+        UNMARKED_B,
+    ),
+];
+
+#[test]
+fn what_a_judge_alone_selects_has_no_marks(rt: HostRuntime) -> Result<(), Fail> {
+    let alloc = rt.alloc();
+    for (command, direct, contrary, content) in &JUDGED_SHOWN {
+        expect_judged_of(&rt, alloc, Direct, SHOWN_LOAD, command, direct)?;
+        expect_judged_of(&rt, alloc, Contrary, SHOWN_LOAD, command, contrary)?;
+        expect_judged_of(&rt, alloc, Content, SHOWN_LOAD, command, content)?;
+    }
+    Ok(())
+}
+
 /// Up to where a judge skips each document, a command, its reply, and for how many elements the judge is asked.
 type CountedRow = (u32, &'static str, &'static str, u32);
 

@@ -70,6 +70,8 @@ mod selections;
 #[cfg(test)]
 mod sessions;
 #[cfg(test)]
+mod shown;
+#[cfg(test)]
 mod watches;
 #[cfg(test)]
 mod words_found;

@@ -2,6 +2,8 @@ pub mod ChosenLemmas
 pub mod EditLemmas
 pub mod KnownLemmas
 pub mod MarkLemmas
+pub mod MarkedLemmas
+pub mod MarkedTokens
 pub mod NamedLemmas
 pub mod PathLemmas
 pub mod QueryLemmas

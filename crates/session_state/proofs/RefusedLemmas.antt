@@ -36,6 +36,7 @@ use Rattle.session_state.specs.DocumentReplies.{edit_refusal, load_refusal, remo
 use Rattle.session_state.specs.Edits.{deletion, edit_placed, edit_read, edit_selected, edit_with, places_selected, stays_if_refused, target_refusal}
 use Rattle.session_state.specs.Held.{Held}
 use Rattle.session_state.specs.KeptTexts.{keep_plans}
+use Rattle.session_state.specs.MarkedWords.{answer_marked}
 use Rattle.session_state.specs.Marks.{at_mark, has_mark, mark_named, mark_put, mark_taken, with_marks, without_mark}
 use Rattle.session_state.specs.Paths.{answer, missing_refusal}
 use Rattle.standing_queries.specs.Answers.{Answers}
@@ -173,6 +174,7 @@ module _ (says : Judgement) (state : State) where
   stays-answered name path (reply.Nodes lines) = done state (watch_answered state name path (reply.Nodes lines)).0
   stays-answered name path reply.Done = λ _. refl
   stays-answered name path (reply.Texts lines) = λ _. refl
+  stays-answered name path (reply.Shown lines) = λ _. refl
   stays-answered name path (reply.Changed lines) = λ _. refl
   stays-answered name path (reply.Explained text) = λ _. refl
   stays-answered name path (reply.Counts counts) = λ _. refl
@@ -182,6 +184,7 @@ module _ (says : Judgement) (state : State) where
   stays-told name w (reply.Nodes lines) = λ refused. let no : ⊥ = cc in absurd no
   stays-told name w reply.Done = λ _. refl
   stays-told name w (reply.Texts lines) = λ _. refl
+  stays-told name w (reply.Shown lines) = λ _. refl
   stays-told name w (reply.Changed lines) = λ _. refl
   stays-told name w (reply.Explained text) = λ _. refl
   stays-told name w (reply.Counts counts) = λ _. refl
@@ -211,6 +214,7 @@ module _ (says : Judgement) (state : State) where
   stays (command.Query path) = in-plans path state (state, answer says Names state path) (λ _. refl)
   stays (command.QueryAt name path) = stays-shown name path (mark_named name state.marks)
   stays (command.Print path) = in-plans path state (state, answer says Texts state path) (λ _. refl)
+  stays (command.Show path) = in-plans path state (state, answer_marked says state path) (λ _. refl)
   stays (command.Mark name) = in-marks state (mark_put state.marks name state.documents state.abbreviations) (stays-marked state.marks name state.documents state.abbreviations)
   stays (command.Unmark name) = in-marks state (mark_taken state.marks name) (stays-unmarked state.marks name)
   stays (command.Watch name path) = stays-watched name path (watch_refusal name state.watches)
@@ -274,6 +278,7 @@ keeps-stamps says state (command.Thesaurus name block) before after changed kept
 keeps-stamps says state (command.Query path) before after changed kept = kept refl
 keeps-stamps says state (command.QueryAt name path) before after changed kept = kept refl
 keeps-stamps says state (command.Print path) before after changed kept = kept refl
+keeps-stamps says state (command.Show path) before after changed kept = kept refl
 keeps-stamps says state (command.Mark name) before after changed kept = kept refl
 keeps-stamps says state (command.Unmark name) before after changed kept = kept refl
 keeps-stamps says state (command.Watch name path) before after changed kept = kept refl
@@ -305,6 +310,7 @@ other-standings says held (command.Thesaurus name block) is = refl
 other-standings says held (command.Query path) is = refl
 other-standings says held (command.QueryAt name path) is = refl
 other-standings says held (command.Print path) is = refl
+other-standings says held (command.Show path) is = refl
 other-standings says held (command.Mark name) is = refl
 other-standings says held (command.Unmark name) is = refl
 other-standings says held (command.Watch name path) is = let no : ⊥ = cc in absurd no

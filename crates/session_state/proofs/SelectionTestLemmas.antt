@@ -81,7 +81,7 @@ found (x ∷ xs) r other h = by (found xs r other) ((spot_reference x).0 == r.0)
           at = ap (λ t. cond t (span x.stand) (span_among r xs)) e ∙ rest.at;
         }
 
-node-there : (root : Numbered) (r : NodeRef) → is_there root r ≡ true → Node root r
+pub node-there : (root : Numbered) (r : NodeRef) → is_there root r ≡ true → Node root r
 unfolding element_of
 node-there root r h =
     let n = found (spots_in root) r (placed [] (plain root)) h in

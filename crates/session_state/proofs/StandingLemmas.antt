@@ -58,7 +58,7 @@ use Rattle.session_state.proofs.WatchLemmas.{each-more, each-put, Entry}
 -- ---- the lines of a path in each document
 
 -- of documents through which a path doesn't lead there are no lines
-through-lines : (root : PathRoot) (f : Named → List (List ℕ)) (ds : List Named) → flat_map (λ d. cond (leads_through root d.name) (f d) []) ds ≡ flat_map f (documents root ds)
+pub through-lines : (root : PathRoot) (f : Named → List (List ℕ)) (ds : List Named) → flat_map (λ d. cond (leads_through root d.name) (f d) []) ds ≡ flat_map f (documents root ds)
 through-lines Collection f ds = refl
 through-lines (Doc name) f [] = refl
 through-lines (Doc name) f (d ∷ ds) =

@@ -7,6 +7,7 @@ pub mod PathPrices
 pub mod PlannedPaths
 pub mod SelectionTests
 pub mod Explained
+pub mod MarkedWords
 pub mod Lists
 pub mod KeptTexts
 pub mod ReadyPaths

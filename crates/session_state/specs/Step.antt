@@ -23,6 +23,7 @@ use Rattle.session_state.specs.Explained.{explained}
 use Rattle.session_state.specs.KeptTexts.{keep_plans}
 use Rattle.session_state.specs.Abbreviations.{abbreviations_put}
 use Rattle.session_state.specs.Lists.{stems_put, stop_list_put, thesaurus_put}
+use Rattle.session_state.specs.MarkedWords.{answer_marked}
 use Rattle.session_state.specs.Marks.{at_mark, mark_named, marked, unmarked}
 use Rattle.session_state.specs.Paths.{answer}
 use Rattle.session_state.specs.State.{State, Mark, with_documents}
@@ -57,6 +58,7 @@ step says state (command.Thesaurus name block) = with_lists state (thesaurus_put
 step says state (command.Query path) = shown says Names state path
 step says state (command.QueryAt name path) = shown_at says state name path (mark_named name state.marks)
 step says state (command.Print path) = shown says Texts state path
+step says state (command.Show path) = keep_plans path (state, answer_marked says state path)
 step says state (command.Mark name) = marked state name
 step says state (command.Unmark name) = unmarked state name
 step says state (command.Watch name path) = watched says state name path
@@ -97,6 +99,7 @@ has_path (command.Delete path) = true
 has_path (command.Query path) = true
 has_path (command.QueryAt name path) = true
 has_path (command.Print path) = true
+has_path (command.Show path) = true
 has_path (command.Watch name path) = true
 has_path (command.Changes name) = true
 has_path _ = false

@@ -1,6 +1,7 @@
-//! What a query selects, and that a refused command changes nothing, said aloud, whatever the judge of a session says.
+//! What a query selects, what is shown of it, and that a refused command changes nothing, said aloud, whatever the judge of a session says.
 
-ghost use Rattle.std.specs.Prelude.{◌≡◌, ℕ, Bool, true, List, map, filter, flat_map, Ok, AllPairs};
+ghost use Rattle.std.specs.Prelude.{◌≡◌, ℕ, Bool, true, List, map, filter, flat_map, None, Ok, Some, AllPairs};
+ghost use Rattle.ft_base.specs.Selection.{Form};
 ghost use Rattle.element_lines.specs.Lines.{element_line};
 ghost use Rattle.path_meaning.specs.Collection.{Named, documents};
 ghost use Rattle.path_meaning.specs.Elements.{Element, elements};
@@ -10,8 +11,10 @@ ghost use Rattle.path_subset.specs.Paths.{PathForm};
 ghost use Rattle.plan_runs.specs.Judgement.{Judgement};
 ghost use Rattle.command_replies.specs.Replies.{is_refusal};
 ghost use Rattle.command_replies.specs.declared.command.Command.{Command};
-ghost use Rattle.command_replies.specs.declared.command.Command.TheVariants.{Query};
-ghost use Rattle.command_replies.specs.declared.reply.Reply.TheVariants.{Nodes};
+ghost use Rattle.command_replies.specs.declared.command.Command.TheVariants.{Query, Show};
+ghost use Rattle.command_replies.specs.declared.reply.Refusal.TheVariants.{NothingToShow};
+ghost use Rattle.command_replies.specs.declared.reply.Reply.TheVariants.{Nodes, Refused, Shown};
+ghost use Rattle.session_state.specs.MarkedWords.{marked_lines, shown_form};
 ghost use Rattle.session_state.specs.Paths.{selected_in, IsAnswered};
 ghost use Rattle.session_state.specs.State.{State};
 ghost use Rattle.session_state.specs.Step.{step};
@@ -23,6 +26,20 @@ pub fn query_law()
         → (step says state (Query text)).1 ≡ Nodes (flat_map
         (λ (d : Named). map (element_line d.name d.root) (selected_in says state.abbreviations state.lists p d.root))
         (documents p.path.root state.documents)) }
+{}
+
+/// `show` tells the elements that the path selects, each by its name and its words, of which those are marked that the best hits of the path's
+/// last selection cover. Where there is no such selection, or its hits can't be shown, there is nothing to show.
+pub fn show_law()
+    ensures elements { (says : Judgement) (state : State) (text : List ℕ) (p : PathForm) (form : Form)
+        → Ok p ≡ path_read text → IsAnswered state p → Some form ≡ shown_form text p
+        → (step says state (Show text)).1 ≡ Shown (flat_map
+        (λ (d : Named). flat_map (marked_lines state.abbreviations state.lists form d.name d.root)
+        (selected_in says state.abbreviations state.lists p d.root))
+        (documents p.path.root state.documents)) }
+    ensures nothing { (says : Judgement) (state : State) (text : List ℕ) (p : PathForm)
+        → Ok p ≡ path_read text → IsAnswered state p → None ≡ shown_form text p
+        → (step says state (Show text)).1 ≡ Refused NothingToShow }
 {}
 
 /// Those elements of a document are the ones that pass a test, in document order, each once.

@@ -10,6 +10,7 @@ mod holding;
 mod keeping;
 pub mod laws;
 mod lists;
+mod marked_words;
 mod marks;
 mod paths;
 mod planned;

@@ -5,6 +5,7 @@ ghost use Rattle.session_state.specs.Edits as edits;
 ghost use Rattle.session_state.specs.Edits.{edit_path, touched_path, touched_with};
 ghost use Rattle.session_state.specs.Held.{nothing_held};
 ghost use Rattle.session_state.specs.KeptTexts.{keep_plans};
+ghost use Rattle.session_state.specs.MarkedWords as marked;
 ghost use Rattle.session_state.specs.Marks.{mark_named, AreIndexesOf};
 ghost use Rattle.session_state.specs.PathPrices.{asks_cheaply, is_cheap_path, moves_for, price_at, read_price};
 ghost use Rattle.path_subset.specs.Answer.{path_read};
@@ -19,6 +20,7 @@ use crate::edit::{Edit, Targets};
 use crate::editing::edit_along;
 use crate::explaining::explain;
 use crate::keeping::keep_accepted;
+use crate::marked_words::answer_marked;
 use crate::marks::{Marks, no_such_name};
 use crate::paths::{Ready, ReadyPath, answer_path, ready_path};
 use crate::refusing::refuse_block;
@@ -103,9 +105,9 @@ impl<J: Judge + Drop> Session<J> {
     /// then the index of its documents under its abbreviations, and that of each mark the index of the mark's under the mark's.
     ///
     /// `moves` counts the steps of the cursors by which commands with a path answer `contains text`: where all selections of the path are
-    /// cheap, no more than what the tests for which it asks cost. The changes of a watch ask only documents whose stamps aren't those under
-    /// which the watch was answered last; then it is answered under the stamps of now. `rows` counts the rows of the index that are put and
-    /// taken.
+    /// cheap, no more than what the tests for which it asks cost. The steps by which `show` finds what it marks aren't among them, and have no
+    /// bound. The changes of a watch ask only documents whose stamps aren't those under which the watch was answered last; then it is answered
+    /// under the stamps of now. `rows` counts the rows of the index that are put and taken.
     pub fn step<L: Ledger, M: Ledger>(
         &mut self,
         command: &Command,
@@ -186,6 +188,7 @@ impl<J: Judge + Drop> Session<J> {
             Command::Query { path } => self.show(Shown::Names, path.as_str(), moves),
             Command::QueryAt { name, path } => self.show_at(name, path.as_str(), moves),
             Command::Print { path } => self.show(Shown::Texts, path.as_str(), moves),
+            Command::Show { path } => self.show_marked(path.as_str(), moves),
             Command::Mark { name } => self.mark(name),
             Command::Unmark { name } => self.unmark(name),
             Command::Watch { name, path } => self.watch(name, path, moves),
@@ -352,6 +355,29 @@ impl<J: Judge + Drop> Session<J> {
             self.stamped.collection(),
             &mut self.prepared,
             shown,
+            path,
+            moves,
+        )
+    }
+
+    /// The reply to a path of whose elements the words are shown, with those marked by which they satisfy its last selection.
+    fn show_marked<M: Ledger>(&mut self, path: &str, moves: &mut Steps<M>) -> Result<Reply, Memory>
+        ensures answer { IfOk result (λ reply. (self.new.state, reply)
+            ≡ keep_plans path.now (self.old.state, marked.answer_marked J.says self.old.state path.now)) }
+        ensures err { OnErr result (self.new ≡ self.old) }
+        ensures version { self.new.version ≡ self.old.version }
+        ensures mark_versions { self.new.mark_versions ≡ self.old.mark_versions }
+        ensures stamps { self.new.stamps ≡ self.old.stamps }
+        ensures standings { self.new.standings ≡ self.old.standings }
+        ensures moves { moves.old ≤ moves.new }
+        ensures price { is_cheap_path self.old.state.lists (path_read path.now) ≡ true
+            → moves.new ≤ moves.old + read_price J.says self.old (path_read path.now) }
+    {
+        answer_marked(
+            self.alloc,
+            &self.judge,
+            self.stamped.collection(),
+            &mut self.prepared,
             path,
             moves,
         )

@@ -73,6 +73,7 @@ pub fn prices_of_commands()
     ensures no_path { (says : Judgement) → (held : Held) → read_price says held (Err (faults.Syntax 0)) ≡ 0 }
     ensures query { (says : Judgement) → (held : Held) → (text : List ℕ) → moves_for says held (command.Query text) ≡ read_price says held (path_read text) }
     ensures print { (says : Judgement) → (held : Held) → (text : List ℕ) → moves_for says held (command.Print text) ≡ read_price says held (path_read text) }
+    ensures show { (says : Judgement) → (held : Held) → (text : List ℕ) → moves_for says held (command.Show text) ≡ read_price says held (path_read text) }
     ensures drop { (says : Judgement) → (held : Held) → (name : List ℕ) → moves_for says held (command.Drop name) ≡ 0 }
     ensures abbreviations { (says : Judgement) → (held : Held) → (block : List ℕ) → moves_for says held (command.Abbreviations block) ≡ 0 }
 {}

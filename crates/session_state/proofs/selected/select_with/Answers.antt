@@ -1,5 +1,5 @@
 -- The test may be asked for each selection that the steps name, and what it was lent comes back.
-use Rattle.std.proofs.Common.{rules, ◌≡◌, ℕ, true, cond, ◌<◌, ap, sym, refl, ◌∙◌, length, map, arith, IsTrue}
+use Rattle.std.proofs.Common.{rules, ◌≡◌, ℕ, true, cond, ◌<◌, ap, sym, ◌∙◌, length, map, arith, IsTrue}
 use Rattle.ft_base.specs.declared.ids.NodeRef.{NodeRef}
 use Rattle.path_grammar.specs.Form.{steps}
 use Rattle.path_grammar.specs.View.{step}
