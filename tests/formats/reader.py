@@ -8,6 +8,7 @@ import collections
 import io
 import re
 import sys
+import unicodedata
 
 MOST_LINE = 65_536
 MOST_BLOCK = 67_108_864
@@ -146,7 +147,7 @@ def _formed(number, word, rest, block, two):
         if name is None or not rest:
             return bad
         return _named(number, "query at", name, block, rest)
-    if word in ("query", "print", "explain", "delete", "replace"):
+    if word in ("query", "print", "explain", "delete", "replace") or two and word == "show":
         return Command(number, word, rest, block, None) if rest else bad
     if word == "insert":
         told = re.fullmatch(r"(first|last|before|after)[ \t]+(.+)", rest, re.DOTALL)
@@ -181,6 +182,21 @@ def _named(number, word, name, block, path):
 WORD = re.compile(r"[^\W_]+(?:\.[^\W_]+)*")
 
 
+def key(word):
+    """What is the same in two words that are found for one another."""
+    return "".join(it for it in unicodedata.normalize("NFD", word) if unicodedata.category(it) != "Mn").casefold()
+
+
+def marked(text, phrase):
+    """The words of a text, those in brackets where a phrase stands first; None where it doesn't stand there."""
+    words, wanted = WORD.findall(text), [key(it) for it in WORD.findall(phrase)]
+    for first in range(len(words)):
+        places = range(first, first + len(wanted))
+        if wanted and [key(it) for it in words[first : first + len(wanted)]] == wanted:
+            return " ".join(f"[{word}]" if place in places else word for place, word in enumerate(words))
+    return None
+
+
 def bad_line(block):
     """The number of the first line of a list that hasn't just one word; None where each has, or is skipped."""
     for number, line in enumerate(block.split(b"\n"), 1):
@@ -197,13 +213,14 @@ def bad_line(block):
 
 
 class Engine:
-    """Answers commands over documents that are one element a: `load`, `drop`, `stop`, `abbreviations`, `stems`, marks, and `query`, `print` and
-    `watch` of `doc("NAME")/a` and of `collection()/a`, this one also cut off somewhere. What a block has that isn't such a document is no document;
-    where its fault is, isn't known here. The lines of stems aren't looked at."""
+    """Answers commands over documents that are one element a: `load`, `drop`, `stop`, `abbreviations`, `stems`, marks, and `query`, `print`, `show`
+    and `watch` of `doc("NAME")/a` and of `collection()/a`, this one also cut off somewhere; `show` also of those of them that have one string. What a
+    block has that isn't such a document is no document; where its fault is, isn't known here. The lines of stems aren't looked at."""
 
     DOCUMENT = re.compile(r"[ \t\r\n]*(?:<a>([^<>&]*)</a>|<a/>)[ \t\r\n]*")
     PATH = "collection()/a"
     ONE = re.compile(r"""doc\((?:"((?:[^"]|"")*)"|'((?:[^']|'')*)')\)/a(?:\[1\])?""")
+    WITH_STRING = re.compile(r'(.*)\[\. contains text "([^"]*)"\]')
     UNKNOWN = "! 6 document: .."
     MOST_WATCHES = 64
 
@@ -229,6 +246,8 @@ class Engine:
             return ["ok" if self.marks.pop(rest, None) is not None else f"! 4 no such name: {rest}"]
         elif word in ("query", "print"):
             return self._found(word, rest, self.documents)
+        elif word == "show":
+            return self._shown(rest)
         elif word == "query at":
             return self._found("query", rest[1], self.marks[rest[0]]) if rest[0] in self.marks else [f"! 4 no such name: {rest[0]}"]
         elif word == "watch":
@@ -277,6 +296,17 @@ class Engine:
         self.watches[name] = path, lines
         changes = [f"- {line}" for line in kept if line not in lines] + [f"+ {line}" for line in lines if line not in kept]
         return [f"= {len(changes)}", *changes]
+
+    def _shown(self, path):
+        told = self.WITH_STRING.fullmatch(path)
+        first, *names = self._found("query", told[1] if told else path, self.documents)
+        if first.startswith("! "):
+            return [first]
+        if not told:
+            return ["! 15 nothing to show"]
+        documents = {'doc("' + name.replace('"', '""') + '")/a[1]': text for name, text in self.documents.items()}
+        pairs = [(name, words) for name in names if (words := marked(documents[name], told[2])) is not None]
+        return [f"= {len(pairs)}", *(line for pair in pairs for line in pair)]
 
     def _found(self, word, path, documents):
         one = self.ONE.fullmatch(path)
