@@ -157,6 +157,8 @@ def test_formats(ask: Ask, folder: Path) -> None:
         "line": 2,
         "path": 'doc("garden.xml")/book[1]/title[1]',
         "text": "Garden Notes",
+        "marks": [],
+        "marked_line": 2,
     }
     rows = list(csv.DictReader(io.StringIO(ask(*files, "--format", "csv").stdout)))
     assert [row["line"] for row in rows] == ["3", "4", "8", "2"]

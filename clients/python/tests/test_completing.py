@@ -21,6 +21,9 @@ COUNTED = 'query collection()//p[. contains text "storm" '
     [
         ("wat", ["watch "]),
         ("cha", ["changes "]),
+        ("sho", ["show "]),
+        ("show ", ["collection()", 'doc("']),
+        ('show collection()//p[. contains text "storm" ', BEHIND_A_STRING),
         ("watch w ", ["collection()", 'doc("']),
         ('watch "w w" col', ["collection()"]),
         (COUNTED, BEHIND_A_STRING),

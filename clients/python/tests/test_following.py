@@ -161,14 +161,15 @@ def test_json_lines_and_csv(program: Path, library: Path) -> None:
         rows: list[dict[str, Any]] = [json.loads(it) for it in followed.written]
     one = {"query": STORM, "document": "a.xml", "file": f"{library}/a.xml"}
     assert rows == [
-        {**one, "change": "-", "line": None, "path": 'doc("a.xml")/r[1]/p[1]', "text": ""},
-        {**one, "change": "+", "line": 2, "path": 'doc("a.xml")/r[1]/p[2]', "text": "storm\n again"},
+        {**one, "change": "-", "line": None, "path": 'doc("a.xml")/r[1]/p[1]', "text": "", "marks": [], "marked_line": None},
+        {**one, "change": "+", "line": 2, "path": 'doc("a.xml")/r[1]/p[2]', "text": "storm\n again", "marks": [[0, 5]], "marked_line": 2},
     ]
     with Followed(program, library, "--format", "csv") as followed:
         (library / "b.xml").unlink()
         followed.comes_to(lambda: len(followed.written) == 2)
         (row,) = csv.DictReader(followed.written)
-    assert row == {"change": "-", "document": "b.xml", "file": f"{library}/b.xml", "line": "", "path": 'doc("b.xml")/r[1]/p[1]', "text": ""}
+    wanted = {"change": "-", "document": "b.xml", "file": f"{library}/b.xml", "line": "", "path": 'doc("b.xml")/r[1]/p[1]', "text": ""}
+    assert row == {**wanted, "marks": "", "marked_line": ""}
 
 
 def test_several_questions_are_told_apart(program: Path, library: Path) -> None:

@@ -38,7 +38,6 @@ def asked(program: Path, tmp_path_factory: pytest.TempPathFactory) -> Iterator[C
         ("king", "King's"),
         ("kings", "King's"),
         ("dont", "don't"),
-        ("don’t", "don't"),
         ("email", '"e mail"'),
         ("cooperate", '"co operate"'),
         ("colur", "Colour"),

@@ -220,12 +220,13 @@ def test_the_path_of_a_command(line: str, path: str) -> None:
         ("\"it's\" all words", None),
         ("\"it's so\" phrase", None),
         ("{\"it's\", \"isn't\"} all", None),
-        ("\"dogs'\" ftand \"'tis\" ftand \"it’s\"", None),
+        ("\"dogs'\" ftand \"'tis\"", None),
+        ("\"it’s\" ftand \"l’an d'été\"", "{\"it’s\", \"it's\"} ftand {\"l’an d'été\", \"l’an d’été\", \"l'an d'été\"}"),
         ("\"b\" using stop words (\"it's\")", None),
         ("\"b\" using thesaurus at \"it's\"", None),
     ],
 )
-def test_apostrophes_are_looked_for_as_they_are_printed_too(selection: str, sent: str | None, session: Session) -> None:
+def test_apostrophes_are_looked_for_as_the_other_ones_too(selection: str, sent: str | None, session: Session) -> None:
     path = f"collection()//p[@n = \"it's\" or . contains text {selection}]"
     assert with_apostrophes(path) == f"collection()//p[@n = \"it's\" or . contains text {sent or selection}]"
     assert Collection(session).fault_of(with_apostrophes(path)) is None

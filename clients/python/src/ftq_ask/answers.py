@@ -4,6 +4,7 @@ from __future__ import annotations
 
 import csv
 import json
+from dataclasses import dataclass
 from typing import Any, Callable, Iterable
 
 from rich.cells import cell_len
@@ -13,19 +14,39 @@ from rich.text import Text
 from ftq_client import Element, QueryFault, Refusal, name_word
 
 from .collection import Collection
-from .locating import Located
-from .mistakes import FAULTS, Fault, advice_for
-from .showing import Asked, Piece, shortened
+from .locating import FileLines, Located
+from .marking import Marking, hint_of
+from .mistakes import FAULTS, Advice, Fault, advice_for
+from .showing import Piece, Words, pieces_of, shortened, stretches
 
 
-def asked_of(path: str, collection: Collection) -> Asked:
-    """The words that a path asks for, under the collection's stems."""
-    return Asked(collection.sent(path), collection.stems.stem if collection.stems else None)
+Adviser = Callable[[str, Fault, Callable[[str], "Fault | None"]], "Advice | None"]
 
 
-def shown_text(located: Located, asked: Asked, whole: bool) -> str:
-    """An element's text in an answer for programs: all of it, or shortened."""
-    return located.text if whole else "".join(it.text for it in shortened(located.shown, asked))
+@dataclass(frozen=True)
+class Manner:
+    """How much of the text of an element is shown: all of it, or a stretch round the first mark, with one round each further mark or without; or in the
+    place of these so many lines of its file before and after the first mark."""
+
+    whole: bool = False
+    every_mark: bool = False
+    context: int | None = None
+
+    def rows(self, located: Located, words: Words) -> list[list[Piece]]:
+        """The stretches of its text that are shown, the first one at the front."""
+        if self.whole and located.text:
+            return [pieces_of(located.text, words.hits_in([located.text])[0])]
+        return stretches(located.shown, words) if self.every_mark else [shortened(located.shown, words)]
+
+
+def spans_of(row: list[Piece]) -> list[list[int]]:
+    """Where the marked words of a stretch begin and end, in characters."""
+    spans, at = [], 0
+    for it in row:
+        if it.asked:
+            spans.append([at, at + len(it.text)])
+        at += len(it.text)
+    return spans
 
 
 def shown_attributes(located: Located, width: int = 160) -> str:
@@ -34,47 +55,63 @@ def shown_attributes(located: Located, width: int = 160) -> str:
     return text if len(text) <= width else f"{text[:width]} …"
 
 
-def row_of(located: Located, asked: Asked, whole: bool) -> dict[str, Any]:
+def row_of(located: Located, words: Words, manner: Manner) -> dict[str, Any]:
     """What an answer for programs has of an element."""
-    return {
+    first, *further = manner.rows(located, words)
+    row: dict[str, Any] = {
         "document": located.element.document,
         "file": str(located.path) if located.path else None,
         "line": located.line,
         "path": located.element.line,
-        "text": shown_text(located, asked, whole),
+        "text": "".join(it.text for it in first),
+        "marks": spans_of(first),
+        "marked_line": located.first_mark(words)[0],
     }
+    if manner.every_mark:
+        row["further"] = [{"text": "".join(it.text for it in stretch), "marks": spans_of(stretch)} for stretch in further]
+    return row
+
+
+def flat(row: dict[str, Any]) -> dict[str, Any]:
+    """The same for a line of CSV: each mark as `BEGIN-END`."""
+    return {**row, "marks": " ".join(f"{first}-{end}" for first, end in row["marks"])}
 
 
 class Output:
     """The answers to questions on standard output or another console. Where there are many, each is told apart: as text by a line with its
     question, in CSV by a column, in JSON by an array."""
 
-    def __init__(self, collection: Collection, form: str, count: bool, whole: bool, many: bool, console: Console | None = None) -> None:
-        """In this form, or the number alone, with whole texts or shortened ones; on that console, or on standard output."""
+    def __init__(self, collection: Collection, form: str, count: bool, manner: Manner, many: bool, console: Console | None = None) -> None:
+        """In this form, or the number alone, with texts in this manner; on that console, or on standard output."""
         self.collection = collection
         self.console = console or Console(highlight=False)
         self.out = self.console.file
         self.form = "count" if count else form
-        self.whole = whole
+        self.manner = manner
         self.many = many
+        self._files = FileLines()
         self._rows: csv.DictWriter[str] | None = None
         self._objects: list[dict[str, Any]] = []
 
-    def write(self, path: str, count: int, shown: list[Element], told: list[str]) -> None:
+    def write(self, path: str, count: int, shown: list[Element], told: list[str], marking: Marking) -> None:
         """Writes an answer: how many elements a question has found, those that are shown, and the hints."""
         if self.many and self.form in ("text", "paths"):
             self.out.write(f"==> {path} <==\n")
         if self.form == "count":
             self.out.write(f"{count} {path}\n" if self.many else f"{count}\n")
         elif self.form == "json":
-            self._objects.append({"query": path, "count": count, "results": self._found(path, shown), "hints": told})
+            results = self._found(shown, marking)
+            self._objects.append({"query": path, "count": count, "results": results, "hints": [*told, *hint_of(marking, self.collection)]})
         elif self.form == "csv":
-            self._csv(path, shown)
+            self._csv(path, shown, marking)
         elif self.form == "paths":
             self.out.writelines(f"{it.line}\n" for it in shown)
+        elif self.form == "vimgrep":
+            rows = (vimgrep(self.collection.locator.locate(it), marking.of(it), self._files) for it in shown)
+            self.out.writelines(f"{it}\n" for it in rows if it)
         else:
             self.out.flush()
-            write_text(self.console, self.collection, path, shown, self.whole)
+            write_text(self.console, self.collection, shown, marking, self.manner)
 
     def end(self) -> None:
         """Writes what stands behind all answers."""
@@ -84,36 +121,63 @@ class Output:
                 json.dump(it, self.out, ensure_ascii=False, indent=1)
                 self.out.write("\n")
 
-    def _found(self, path: str, shown: list[Element]) -> list[dict[str, Any]]:
-        asked = asked_of(path, self.collection)
-        return [row_of(self.collection.locator.locate(it), asked, self.whole) for it in shown]
+    def _found(self, shown: list[Element], marking: Marking) -> list[dict[str, Any]]:
+        return [row_of(self.collection.locator.locate(it), marking.of(it), self.manner) for it in shown]
 
-    def _csv(self, path: str, shown: list[Element]) -> None:
+    def _csv(self, path: str, shown: list[Element], marking: Marking) -> None:
         """A line of names, then one for each element."""
         if self._rows is None:
-            names = ["document", "file", "line", "path", "text"]
-            self._rows = csv.DictWriter(self.out, ["query", *names] if self.many else names, lineterminator="\n")
+            names = ["document", "file", "line", "path", "text", "marks", "marked_line"]
+            self._rows = csv.DictWriter(self.out, ["query", *names] if self.many else names, extrasaction="ignore", lineterminator="\n")
             self._rows.writeheader()
-        self._rows.writerows({"query": path, **it} if self.many else it for it in self._found(path, shown))
+        self._rows.writerows({"query": path, **flat(it)} for it in self._found(shown, marking))
 
 
-def write_text(console: Console, collection: Collection, path: str, shown: Iterable[Element], whole: bool) -> None:
-    """For each element its file and line, its path, and below them its text with the words that were asked for."""
-    asked = asked_of(path, collection)
+def vimgrep(located: Located, words: Words, files: FileLines) -> str:
+    """An element as editors read the answers of grep: `FILE:LINE:COLUMN:` and that line of the file, at its first mark. Columns count bytes, from 1.
+    Nothing where it isn't known where it stands."""
+    line, word = located.first_mark(words)
+    if located.path is None or line is None:
+        return ""
+    text = files.line(located.path, line)
+    column = len(text.partition(word)[0].encode("utf-8")) + 1 if word and word in text else 1
+    return f"{located.path}:{line}:{column}:{text}"
+
+
+def write_text(console: Console, collection: Collection, shown: Iterable[Element], marking: Marking, manner: Manner) -> None:
+    """For each element its file and line, its path, and below them its text with its marked words."""
+    files = FileLines()
     for element in shown:
-        write_element(console, collection.locator.locate(element), asked, whole)
+        write_element(console, collection.locator.locate(element), marking.of(element), manner, files)
 
 
-def write_element(console: Console, located: Located, asked: Asked, whole: bool, front: Text = Text()) -> None:
-    """An element as `write_text` writes it, behind a text in its first line."""
-    say(console, Text.assemble(front, (located.place, "cyan"), "  ", (located.element.line, "dim")))
-    pieces = [Piece(located.text)] if whole and located.text else shortened(located.shown, asked)
+def write_element(console: Console, located: Located, words: Words, manner: Manner, files: FileLines, front: Text = Text()) -> None:
+    """An element as `write_text` writes it, behind a text in its first line. Where its first mark stands on another line than it begins, that is
+    told."""
+    line, word = located.first_mark(words)
+    behind = f"  line {line}" if line != located.line else ""
+    say(console, Text.assemble(front, (located.place, "cyan"), "  ", (located.element.line, "dim"), (behind, "cyan")))
     if located.note:
         say(console, Text(f"    ({located.note})", "yellow"))
-    if pieces:
-        say(console, Text.assemble("    ", *((it.text, "bold green") if it.asked else it.text for it in pieces)))
-    elif located.attributes:
+    if manner.context is not None and located.path is not None and line is not None:
+        write_lines(console, files.round(located.path, line, manner.context), line, word)
+        return
+    for row in manner.rows(located, words) if located.shown.strip() else ():
+        write_pieces(console, row)
+    if not located.shown.strip() and located.attributes:
         say(console, Text(f"    {shown_attributes(located)}", "dim"))
+
+
+def write_lines(console: Console, lines: Iterable[tuple[int, str]], here: int, word: str) -> None:
+    """Lines of a file with their numbers, a colon behind that of one of them, in which a word is marked, and a hyphen behind the others."""
+    for number, text in lines:
+        before, found, behind = text.partition(word) if word and number == here else (text, "", "")
+        say(console, Text.assemble((f"    {number}{':' if number == here else '-'} ", "cyan"), before, (found, "bold green"), behind))
+
+
+def write_pieces(console: Console, row: Iterable[Piece]) -> None:
+    """A stretch of text with its marked words."""
+    say(console, Text.assemble("    ", *((it.text, "bold green") if it.asked else it.text for it in row)))
 
 
 def counted(count: int) -> str:
@@ -132,15 +196,30 @@ def say_hints(console: Console, told: Iterable[str]) -> None:
         say(console, Text(f"hint: {it}", "yellow"))
 
 
-def say_refusal(console: Console, path: str, refusal: Refusal, fault_of: Callable[[str], Fault | None], prefix: str = "") -> None:
+_FRONT = "collection()/*[. contains text "
+
+
+def advice_for_selection(selection: str, fault: Fault, fault_of: Callable[[str], Fault | None]) -> Advice | None:
+    """What to write instead of a selection by itself: it is looked at in a path, of which it has to stay the only part that changes."""
+    kind, column = fault
+    advice = advice_for(f"{_FRONT}{selection}]", (kind, column + len(_FRONT)), fault_of)
+    if advice is None or advice.write is None:
+        return advice
+    inside = advice.write.removeprefix(_FRONT).removesuffix("]")
+    return Advice(advice.why, inside) if advice.write == f"{_FRONT}{inside}]" else None
+
+
+def say_refusal(
+    console: Console, path: str, refusal: Refusal, fault_of: Callable[[str], Fault | None], prefix: str = "", advise: Adviser = advice_for
+) -> None:
     """Writes what a refusal says. A fault of a path shows the path, a caret under its place, and what to write instead: a path in which the
-    program finds no fault, as `fault_of` tells."""
+    program finds no fault, as `fault_of` tells. `advise` says what that is; of a selection by itself it is `advice_for_selection`."""
     if isinstance(refusal, QueryFault):
         column = refusal.column(path)
         say(console, Text(f"{prefix}{refusal.kind}: {FAULTS.get(refusal.kind, refusal.reply)}", "red"))
         say(console, f"    {path}")
         say(console, Text("    " + " " * cell_len(path[:column]) + "^", "red"))
-        advice = advice_for(path, (refusal.kind, column), fault_of)
+        advice = advise(path, (refusal.kind, column), fault_of)
         if advice:
             say(console, Text(f"    {advice.why}" + ("; write:" if advice.write else ""), "yellow"))
             if advice.write:
@@ -155,6 +234,10 @@ _WORDS: dict[int, Callable[[Refusal], str]] = {
     3: lambda it: f"there is one called {it.name}: drop it first (a mark by unmark, a watch by unwatch), or take another name",
     4: lambda it: f"no document, no mark and no watch is called {it.name}",
     8: lambda it: f"there is no document {it.name}; files lists those that there are",
+    15: lambda it: (
+        "why an element is found is shown where the last predicate of the path's last step is . contains text alone, without occurs under a filter and "
+        "without ftnot or occurs inside ftnot"
+    ),
     9: lambda it: f"there is no list {it.name}: load it with stop {name_word(it.name)} or thesaurus {name_word(it.name)}, or by --stop",
 }
 

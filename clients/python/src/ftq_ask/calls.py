@@ -7,7 +7,7 @@ from pathlib import Path
 
 from .abbreviating import LANGUAGES
 
-FORMATS = ("text", "json", "csv", "paths")
+FORMATS = ("text", "json", "csv", "paths", "vimgrep")
 
 ASK = """Asks a folder of XML: loads its files, and answers the questions of --query, or those that are typed at a prompt.
 
@@ -27,7 +27,10 @@ def parser() -> argparse.ArgumentParser:
     it.add_argument("--limit", type=number, metavar="N", help="shows N elements at most of each answer")
     it.add_argument("--offset", type=number, default=0, metavar="N", help="leaves out the first N elements")
     it.add_argument("--whole", action="store_true", help="shows the whole text of each element")
-    it.add_argument("--as-typed", action="store_true", help="asks as it is typed: without it ' finds ’ too")
+    it.add_argument("-C", "--context", type=number, metavar="N", help="shows the line of the file with the first mark, and N lines before and after it")
+    it.add_argument("--vimgrep", dest="format", action="store_const", const="vimgrep", help="writes FILE:LINE:COLUMN:TEXT, as editors read it")
+    it.add_argument("--every-mark", action="store_true", help="shows a stretch of text round each mark, not round the first alone")
+    it.add_argument("--as-typed", action="store_true", help="asks as it is typed: without it ' and ’ find each other")
     it.add_argument("--timeout", type=seconds, metavar="SECONDS", help="gives a question up that isn't answered in so many seconds")
     it.add_argument("--scheduler", metavar="ADDRESS", help="divides the documents over the workers of Dask's scheduler there")
     return it
@@ -74,12 +77,14 @@ def read_words(arguments: list[str]) -> argparse.Namespace:
     for name in ("count", "limit", "offset"):
         if not options.query and getattr(options, name) != words.get_default(name):
             words.error(f"--{name} is for the answer to --query, and there is none")
-    for name in ("format", "whole"):
+    for name in ("format", "whole", "every_mark", "context"):
         if not (options.query or options.follow) and getattr(options, name) != words.get_default(name):
-            words.error(f"--{name} is for the answer to --query or --follow, and there is none")
+            words.error(f"--{name.replace('_', '-')} is for the answer to --query or --follow, and there is none")
     for name in ("query", "workers", "scheduler") if options.follow else ():
         if getattr(options, name):
             words.error(f"--follow goes on with one program, and has no place beside --{name}")
+    if options.follow and options.format == "vimgrep":
+        words.error("--follow tells what comes and what goes, and has no place for that in --vimgrep")
     return options
 
 

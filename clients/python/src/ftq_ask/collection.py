@@ -6,7 +6,23 @@ from dataclasses import dataclass, replace
 from pathlib import Path
 from typing import Any, Callable, Iterator
 
-from ftq_client import LATEST_FORMAT, BadLine, ClientError, DocumentFault, Element, Full, Names, QueryFault, Refusal, Reply, SessionFull, command_words
+from ftq_client import (
+    LATEST_FORMAT,
+    BadCommand,
+    BadLine,
+    ClientError,
+    DocumentFault,
+    Element,
+    Full,
+    Names,
+    NothingToShow,
+    QueryFault,
+    Refusal,
+    Reply,
+    SessionFull,
+    Shown,
+    command_words,
+)
 
 from .abbreviating import Abbreviations
 from .choosing import PART, Choice
@@ -49,6 +65,12 @@ class Collection:
         """Whether questions are asked as they are typed."""
         self.told_of_apostrophes = False
         """Whether it was said that they aren't."""
+        self.told_of_marks = False
+        """Whether it was said that words are marked by guess."""
+        self._shows: dict[str, bool] = {}
+        """Of predicates at the ends of paths whether the program shows by which words they are met."""
+        self.seconds: float | None = None
+        """How long each question may take; None for as long as it does."""
         self.edition = 0
         """How often the documents have changed with their files since they were loaded."""
         self.rules = rules
@@ -171,8 +193,27 @@ class Collection:
         lines = self._lines("print ", path)
         return [without_empty_lines(it) for it in lines] if self.rules.blocks else lines
 
+    def shown(self, path: str) -> list[Shown]:
+        """The elements that a path selects, with their words and the marked ones of these."""
+        lines = self._lines("show ", path)
+        return [Shown.read(line, words) for line, words in zip(lines[::2], lines[1::2])]
+
+    def can_show(self, test: str) -> bool:
+        """Whether the program shows by which words a predicate at the end of a path is met. It is asked of elements that can't be there. With no
+        predicate, whether it shows anything."""
+        if test not in self._shows:
+            try:
+                self._shows[test] = self.shown(f"collection()/*[0]{test}") == []
+            except NothingToShow:
+                self._shows[test] = not test
+            except BadCommand:
+                self._shows[test] = False
+            except (ClientError, ValueError):
+                return False
+        return self._shows[test]
+
     def sent(self, path: str) -> str:
-        """A path as the program is asked for it: an apostrophe that is typed is looked for as it is printed too."""
+        """A path as the program is asked for it: each apostrophe is looked for as the other one too."""
         return path if self.as_typed else with_apostrophes(path)
 
     def named(self, name: str) -> str:

@@ -23,6 +23,7 @@ from .collection import Collection, Planned
 from .engines import engine_of
 from .lists import NoList, Stems
 from .loading import Reader
+from .marking import Marking, hint_of
 from .missing import all_hints
 from .shares import scheduled_shares
 
@@ -54,6 +55,7 @@ def main(arguments: list[str]) -> int:
         tell(collection, errors)
         if not options.query:
             answers.say(errors, loaded(collection, start))
+        collection.seconds = options.timeout
         collection.engine.give_up_after(options.timeout)
 
     try:
@@ -129,7 +131,8 @@ def _load_with_bar(collection: Collection, planned: list[Planned], errors: Conso
 
 def answer_all(collection: Collection, options: argparse.Namespace, errors: Console, console: Console | None = None) -> int:
     """Answers the questions of --query, one after the other, on a console or standard output; hints and faults are written on standard error."""
-    out = answers.Output(collection, options.format, options.count, options.whole, len(options.query) > 1, console)
+    manner = answers.Manner(options.whole, options.every_mark, options.context)
+    out = answers.Output(collection, options.format, options.count, manner, len(options.query) > 1, console)
     faulty, some = bool(collection.untaken), False
     for path in options.query:
         try:
@@ -145,11 +148,12 @@ def answer_all(collection: Collection, options: argparse.Namespace, errors: Cons
         some = some or bool(found)
         last = None if options.limit is None else options.offset + options.limit
         shown = found[options.offset : last]
-        if options.format == "json" and not options.count:
-            out.write(path, len(found), shown, all_hints(path, len(found), collection))
+        marking = Marking(path, collection, len(shown) == len(found))
+        if out.form == "json":
+            out.write(path, len(found), shown, all_hints(path, len(found), collection), marking)
         else:
-            out.write(path, len(found), shown, [])
+            out.write(path, len(found), shown, [], marking)
             out.out.flush()
-            answers.say_hints(errors, all_hints(path, len(found), collection))
+            answers.say_hints(errors, [*all_hints(path, len(found), collection), *hint_of(marking, collection)])
     out.end()
     return FAULT if faulty else FOUND if some else NONE

@@ -15,8 +15,8 @@ ASKING = ["help", "quit", "more", "files", "names"]
 """The words of the prompt itself."""
 
 LANGUAGE = [
-    *["query", "print", "load", "drop", "stop", "stems", "thesaurus", "abbreviations", "explain", "stats", "mark", "unmark", "watch", "changes", "unwatch"],
-    *["insert", "replace", "delete"],
+    *["query", "print", "show", "load", "drop", "stop", "stems", "thesaurus", "abbreviations", "explain", "stats", "mark", "unmark"],
+    *["watch", "changes", "unwatch", "insert", "replace", "delete"],
 ]
 """The first words of the language's commands."""
 
@@ -72,7 +72,7 @@ class PathCompleter(Completer):
         if first:
             yield from self._from(first[1], [*(f"{it} " for it in LANGUAGE), *ASKING, "collection()", 'doc("'])
             return
-        if re.fullmatch(rf"\s*(?:query|print|delete|replace|watch\s+(?:{STRING}|\S+))\s+({_NAME})", text):
+        if re.fullmatch(rf"\s*(?:query|print|show|delete|replace|watch\s+(?:{STRING}|\S+))\s+({_NAME})", text):
             yield from self._from(text.split()[-1] if text[-1] not in " \t" else "", ["collection()", 'doc("'])
             return
         inside_string = missing_end(text)[:1] in ("'", '"')

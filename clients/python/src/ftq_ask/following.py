@@ -22,9 +22,11 @@ from ftq_client import Changes, ClientError, Element, Refusal, TimedOut
 
 from . import answers
 from .collection import Collection
-from .locating import Located
+from .locating import FileLines, Located
+from .marking import Marking
 from .missing import all_hints
 from .renewing import Renewal
+from .showing import Asked
 
 QUIET = 0.3
 """For how many seconds nothing may change before what has is taken in, so that changes close together count as one."""
@@ -113,7 +115,8 @@ class Following:
         self._refused: set[str] = set()
         self._renewal = Renewal(collection, options.paths, lambda change: change(collection.engine))
         self._files: dict[str, Path] = {}
-        self._output = Output(collection, self._files, options.format, options.whole, len(options.follow) > 1)
+        manner = answers.Manner(options.whole, options.every_mark, options.context)
+        self._output = Output(collection, self._files, options.format, manner, len(options.follow) > 1)
 
     def begin(self) -> bool:
         """Keeps the questions, and says what their answers are now; whether none is refused."""
@@ -176,14 +179,14 @@ class Following:
 class Output:
     """Changes on standard output: a sign before each element, `-` where it went and `+` where it came."""
 
-    def __init__(self, collection: Collection, files: dict[str, Path], form: str, whole: bool, many: bool) -> None:
-        """In this form, with whole texts or shortened ones; where there are many questions, each is told apart as in their answers. `files` are those
-        of documents, also of such as are gone."""
+    def __init__(self, collection: Collection, files: dict[str, Path], form: str, manner: answers.Manner, many: bool) -> None:
+        """In this form, with texts in this manner; where there are many questions, each is told apart as in their answers. `files` are those of
+        documents, also of such as are gone."""
         self._collection = collection
         self._files = files
         self._console = Console(highlight=False)
         self._form = form
-        self._whole = whole
+        self._manner = manner
         self._many = many
         self._rows: csv.DictWriter[str] | None = None
 
@@ -193,15 +196,17 @@ class Output:
         if self._many and self._form in ("text", "paths"):
             out.write(f"==> {path} <==\n")
             out.flush()
-        asked = answers.asked_of(path, self._collection)
+        marking = Marking(path, self._collection)
         for sign, located in self._located(changes):
+            if self._form == "paths":
+                out.write(f"{sign} {located.element.line}\n")
+                continue
+            words = marking.of(located.element) if sign == "+" else Asked("")
             if self._form == "text":
                 front = Text(f"{sign} ", "green" if sign == "+" else "red")
-                answers.write_element(self._console, located, asked, self._whole, front)
-            elif self._form == "paths":
-                out.write(f"{sign} {located.element.line}\n")
+                answers.write_element(self._console, located, words, self._manner, FileLines(), front)
             else:
-                self._write_row({"query": path, "change": sign, **answers.row_of(located, asked, self._whole)})
+                self._write_row({"query": path, "change": sign, **answers.row_of(located, words, self._manner)})
         out.flush()
 
     def _located(self, changes: Changes) -> Iterator[tuple[str, Located]]:
@@ -216,7 +221,7 @@ class Output:
             self._console.file.write(json.dumps(row, ensure_ascii=False) + "\n")
             return
         if self._rows is None:
-            names = [it for it in row if self._many or it != "query"]
+            names = [it for it in row if (self._many or it != "query") and it != "further"]
             self._rows = csv.DictWriter(self._console.file, names, extrasaction="ignore", lineterminator="\n")
             self._rows.writeheader()
-        self._rows.writerow(row)
+        self._rows.writerow(answers.flat(row))

@@ -2,9 +2,11 @@
 
 from __future__ import annotations
 
+import re
 import threading
 from collections import OrderedDict
 from dataclasses import dataclass
+from functools import partial
 from pathlib import Path
 from typing import Callable
 
@@ -12,9 +14,10 @@ from lxml import etree
 
 from ftq_client import Element
 
-from .limits import lines_of
+from .limits import lines_of, lines_of_texts
 from .reading import Rules, Vocabulary, read_tree
-from .trees import Tree, Untaken, written_attributes, written_name
+from .showing import Words
+from .trees import Tree, Untaken, texts_of, written_attributes, written_name
 
 
 @dataclass(frozen=True)
@@ -38,6 +41,8 @@ class Located:
     texts: tuple[str, ...] = ()
     attributes: tuple[tuple[str, str], ...] = ()
     note: str = ""
+    text_lines: Callable[[], list[int | None]] = list
+    """Tells the lines of the file at which the texts begin."""
 
     @property
     def text(self) -> str:
@@ -49,12 +54,58 @@ class Located:
         """The element's text with a blank at each boundary of elements, where a word ends too."""
         return " ".join(self.texts)
 
+    def first_mark(self, words: Words) -> tuple[int | None, str]:
+        """The line of the file on which the first marked word stands, and the word; that of the element and nothing where none is marked, and that of
+        the element where the word's line isn't known."""
+        for number, (text, hits) in enumerate(zip(self.texts, words.hits_in(self.texts))):
+            if hits:
+                first, last, _ = hits[0]
+                if number == 0 and "\n" not in text[:first]:
+                    return self.line, text[first:last]
+                line = next(iter(self.text_lines()[number:]), None)
+                return (self.line if line is None else line + text.count("\n", 0, first)), text[first:last]
+        return self.line, ""
+
     @property
     def place(self) -> str:
         """`FILE:LINE`, as far as it is known."""
         if self.path is None:
             return self.element.document
         return f"{self.path}:{self.line}" if self.line else str(self.path)
+
+
+_ENCODING = re.compile(rb"<\?xml[^>]*encoding\s*=\s*[\"']([A-Za-z0-9._-]+)")
+
+
+class FileLines:
+    """The lines of files as they stand there; those of the last file are kept."""
+
+    def __init__(self) -> None:
+        self._path: Path | None = None
+        self._lines: list[str] = []
+
+    def round(self, path: Path, line: int, count: int) -> list[tuple[int, str]]:
+        """A line, counted from 1, with so many before and after it, each with its number."""
+        lines = self._of(path)
+        return [(number, lines[number - 1]) for number in range(max(1, line - count), min(len(lines), line + count) + 1)]
+
+    def line(self, path: Path, line: int) -> str:
+        """That line; no text where the file hasn't so many."""
+        return next((text for _, text in self.round(path, line, 0)), "")
+
+    def _of(self, path: Path) -> list[str]:
+        if path != self._path:
+            try:
+                data = path.read_bytes()
+            except OSError:
+                data = b""
+            named = _ENCODING.match(data)
+            try:
+                text = data.decode(named[1].decode("ascii") if named else "utf-8-sig", errors="replace")
+            except LookupError:
+                text = data.decode("utf-8", errors="replace")
+            self._path, self._lines = path, [it.removesuffix("\r") for it in text.split("\n")]
+        return self._lines
 
 
 class Document:
@@ -66,6 +117,7 @@ class Document:
         self.lines = {} if tree.origins else lines_of(tree.root, path)
         self._origins = tree.origins
         self._children: dict[etree._Element, dict[str, list[etree._Element]]] = {}
+        self._text_lines: dict[tuple[etree._Element, bool], int] | None = None
 
     def find(self, element: Element) -> etree._Element | None:
         """The element to which the steps lead."""
@@ -88,6 +140,13 @@ class Document:
         while here is not None and here not in self._origins:
             here = here.getparent()
         return self.path if here is None else self._origins[here], element.sourceline
+
+    def text_lines(self, element: etree._Element) -> list[int | None]:
+        """The lines of the file at which the texts in an element begin, as far as they are known."""
+        if self._text_lines is None:
+            self._text_lines = lines_of_texts(self.root, self.path, self._origins)
+        known = self._text_lines
+        return [known.get((it, behind)) for it, behind, _ in texts_of(element)]
 
     def _by_name(self, parent: etree._Element) -> dict[str, list[etree._Element]]:
         if parent not in self._children:
@@ -138,7 +197,8 @@ class Locator:
         if found is None:
             return Located(element, source.path, note="the file has no such element")
         path, line = document.place(found)
-        return Located(element, path, line, tuple(found.itertext()), tuple(written_attributes(found)))
+        texts = tuple(text for _, _, text in texts_of(found))
+        return Located(element, path, line, texts, tuple(written_attributes(found)), text_lines=partial(document.text_lines, found))
 
     def document(self, name: str) -> "Document | str":
         """A document as its file has it, or why it can't be shown."""

@@ -41,7 +41,7 @@ def _of_apostrophes(path: str, collection: Collection) -> Iterator[str]:
     """That both apostrophes were asked for, the first time that they were."""
     if collection.sent(path) != path and not collection.told_of_apostrophes:
         collection.told_of_apostrophes = True
-        yield f"' finds ’ too: the program was asked for {collection.sent(path)}; --as-typed leaves questions as they are"
+        yield f"' and ’ find each other: the program was asked for {collection.sent(path)}; --as-typed leaves questions as they are"
 
 
 def missing_words(path: str, collection: Collection) -> Iterator[str]:

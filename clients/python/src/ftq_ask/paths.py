@@ -88,24 +88,36 @@ def _asked_places(row: list[Symbol]) -> Iterator[int]:
             yield number
 
 
+def last_test(path: str) -> str:
+    """The predicate at the end of a path, where it begins as one that asks for text does; else nothing."""
+    row = symbols(path)
+    brackets = [number for number, it in enumerate(row) if it.text in ("[", "]")]
+    begun = brackets[-2] if len(brackets) > 1 and row[brackets[-2]].text == "[" and brackets[-1] == len(row) - 1 else None
+    if begun is None or [it.text for it in row[begun + 1 : begun + 4]] != [".", "contains", "text"]:
+        return ""
+    return path[row[begun].start :].rstrip()
+
+
 def quoted(text: str) -> str:
     """A text as a string of a path."""
     return f"'{text}'" if '"' in text and "'" not in text else '"' + text.replace('"', '""') + '"'
 
 
-_TYPED_APOSTROPHE = re.compile(r"(?<=\w)'(?=\w)")
+_APOSTROPHE = re.compile(r"(?<=\w)['’](?=\w)")
 
 
 def with_apostrophes(path: str) -> str:
-    """A path in which each string with a typed apostrophe between letters is a choice of it and of the same with the printed one. A string that
-    stands among others in braces, or whose words are asked for all together, stays as it is: there a choice would ask for something else."""
+    """A path in which each string with an apostrophe between letters, be it the typed or the printed one, is a choice of it and of the same with the
+    other one. A string that stands among others in braces, or whose words are asked for all together, stays as it is: there a choice would ask for
+    something else."""
     row = symbols(path)
     parts, at = [], 0
     for number in _asked_places(row):
         symbol = row[number]
         before, behind = row[number - 1].text, row[number + 1].text if number + 1 < len(row) else ""
-        if _TYPED_APOSTROPHE.search(symbol.value) and before not in ("{", ",") and behind not in ("all", "phrase"):
-            parts += [path[at : symbol.start], f"{{{symbol.text}, {quoted(_TYPED_APOSTROPHE.sub('’', symbol.value))}}}"]
+        others = [it for it in (_APOSTROPHE.sub("’", symbol.value), _APOSTROPHE.sub("'", symbol.value)) if it != symbol.value]
+        if others and before not in ("{", ",") and behind not in ("all", "phrase"):
+            parts += [path[at : symbol.start], "{" + ", ".join([symbol.text, *map(quoted, others)]) + "}"]
             at = symbol.start + len(symbol.text)
     return "".join([*parts, path[at:]])
 

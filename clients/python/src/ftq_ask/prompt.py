@@ -4,6 +4,8 @@ from __future__ import annotations
 
 import os
 import re
+import shlex
+import subprocess
 import sys
 from pathlib import Path
 from typing import Iterator
@@ -20,8 +22,11 @@ from ftq_client.blocks import BLOCK_WORDS
 from . import answers
 from .collection import Collection
 from .completing import ASKING, LANGUAGE, PathCompleter
+from .marking import Marking, hint_of
 from .missing import all_hints
+from .mistakes import advice_for
 from .paths import missing_end, path_in
+from .showing import Marked, pieces_of
 
 SHOWN = 10
 """How many elements are shown at a time."""
@@ -34,8 +39,10 @@ A question is a path; query may stand before it:
     doc("NAME")//chapter[title contains text "sea" ftand ftnot "storm"]
     collection()//p[. contains text "regist.*" using wildcards]
     print PATH                                         the elements as XML
+    show PATH                                          their words, with those marked by which they are found
 
 more                    the next elements of the last answer
+open N                  the file of its N-th element in your editor (VISUAL or EDITOR), at the line of the first mark
 files                   the documents with their files
 names                   the names of elements and attributes, and in how many documents they are
 load NAME, stop NAME, stems, thesaurus NAME, abbreviations
@@ -66,7 +73,8 @@ class Conversation:
     def __init__(self, collection: Collection, out: Console) -> None:
         self.collection = collection
         self.out = out
-        self._path = ""
+        self._marking = Marking("", collection)
+        self._found: list[Element] = []
         self._rest: list[Element] = []
 
     def do(self, typed: str) -> bool:
@@ -78,12 +86,16 @@ class Conversation:
             return True
         if text in ("quit", "exit", "q"):
             return False
-        if text in ASKING or word == "help":
+        if word == "open" and rest.isdecimal():
+            self._open(int(rest))
+        elif text in ASKING or word == "help":
             {"help": self._help, "more": self._more, "files": self._files, "names": self._names}[word]()
         elif word in BLOCK_WORDS[LATEST_FORMAT]:
             self._block(text)
         elif word == "print":
             self._printed(_one_line(rest))
+        elif word == "show":
+            self._shown(_one_line(rest))
         elif word == "query":
             self._asked_of(_one_line(text))
         elif word in LANGUAGE:
@@ -101,9 +113,22 @@ class Conversation:
             answers.say_refusal(self.out, path, refusal, self.collection.fault_of)
             return
         answers.say(self.out, Text(answers.counted(len(found)), "bold"))
-        self._path, self._rest = path, found
+        self._marking, self._found, self._rest = Marking(path, self.collection), found, found
         self._more()
         self._hints(path, len(found))
+        answers.say_hints(self.out, hint_of(self._marking, self.collection))
+
+    def _shown(self, path: str) -> None:
+        try:
+            shown = self.collection.shown(path)
+        except Refusal as refusal:
+            answers.say_refusal(self.out, path, refusal, self.collection.fault_of)
+            return
+        answers.say(self.out, Text(answers.counted(len(shown)), "bold"))
+        for it in shown:
+            answers.say(self.out, Text(self.collection.locator.locate(it.element).place, "cyan"))
+            answers.write_pieces(self.out, pieces_of(" ".join(it.words), Marked(it).hits_in([" ".join(it.words)])[0]))
+        self._hints(path, len(shown))
 
     def _printed(self, path: str) -> None:
         try:
@@ -125,8 +150,8 @@ class Conversation:
         try:
             reply = self.collection.command(line, block)
         except Refusal as refusal:
-            fault_of = self.collection.fault_of_selection if first_word(line) == "explain" else self.collection.fault_of
-            answers.say_refusal(self.out, path_in(line), refusal, fault_of)
+            advise = answers.advice_for_selection if first_word(line) == "explain" else advice_for
+            answers.say_refusal(self.out, path_in(line), refusal, self.collection.fault_of, advise=advise)
             return
         except ValueError as error:
             answers.say(self.out, Text(str(error), "red"))
@@ -147,9 +172,27 @@ class Conversation:
 
     def _more(self) -> None:
         shown, self._rest = self._rest[:SHOWN], self._rest[SHOWN:]
-        answers.write_text(self.out, self.collection, self._path, shown, whole=False)
+        answers.write_text(self.out, self.collection, shown, self._marking, answers.Manner())
         if self._rest:
             answers.say(self.out, Text(f"{len(self._rest):,} further: more", "dim"))
+
+    def _open(self, number: int) -> None:
+        """Opens the file of an element of the last answer in the user's editor, which is told the line as most are."""
+        if not 0 < number <= len(self._found):
+            answers.say(self.out, Text(f"the last answer has {answers.counted(len(self._found))}", "red"))
+            return
+        element = self._found[number - 1]
+        located = self.collection.locator.locate(element)
+        if located.path is None:
+            answers.say(self.out, Text(located.note, "red"))
+            return
+        editor = shlex.split(os.environ.get("VISUAL") or os.environ.get("EDITOR") or "vi")
+        line, _ = located.first_mark(self._marking.of(element))
+        self.out.file.flush()
+        try:
+            subprocess.run([*editor, f"+{line or 1}", os.fspath(located.path)])
+        except OSError as error:
+            answers.say(self.out, Text(f"{editor[0]} can't be started: {error.strerror}; VISUAL and EDITOR name another editor", "red"))
 
     def _files(self) -> None:
         for name, source in self.collection.sources.items():

@@ -18,7 +18,22 @@ from pathlib import Path
 from typing import Any, Callable, Iterable, TypeVar
 
 import ftq_client
-from ftq_client import LATEST_FORMAT, ClientError, Done, Element, Found, NameTaken, NoSuchDocument, NoSuchName, ProgramEnded, Reply, Session, command_words
+from ftq_client import (
+    LATEST_FORMAT,
+    ClientError,
+    Done,
+    Element,
+    Found,
+    NameTaken,
+    NoSuchDocument,
+    NoSuchName,
+    ProgramEnded,
+    Reply,
+    Session,
+    Shown,
+    command_words,
+)
+from ftq_client.replies import LINES_EACH
 
 Answer = TypeVar("Answer")
 Part = TypeVar("Part")
@@ -196,13 +211,17 @@ class Shares:
         """The elements that the path selects as XML, those of the first share first."""
         return self._joined(path, lambda it: it.print(path))
 
+    def show(self, path: str) -> list[Shown]:
+        """The elements that the path selects with their words, those of the first share first."""
+        return self._joined(path, lambda it: it.show(path))
+
     def command(self, line: str, block: bytes | None = None) -> Reply:
         """The reply to a command. Queries go to all shares, lists too, documents to the share that is theirs; a `ValueError` tells of
         a command that isn't divided."""
         words = command_words(line, self.session_format)
         kind, names = (words[0] if words else ""), words[1:]
-        if kind in ("query", "print"):
-            return Found(tuple(self._joined(line.strip()[len(kind) :], lambda it: list(it.command(line).lines))))
+        if kind in ("query", "print", "show"):
+            return Found(tuple(self._joined(line.strip()[len(kind) :], lambda it: list(it.command(line).lines), LINES_EACH.get(kind, 1))))
         by_name = {"load": self.load, "stop": self.stop, "thesaurus": self.thesaurus}
         if kind in by_name and len(names) == 1 and block is not None:
             by_name[kind](names[0], block)
@@ -300,9 +319,9 @@ class Shares:
         for kept in self._kept:
             kept.called(method, name, *words)
 
-    def _joined(self, path: str, ask: Callable[[Any], list[Part]]) -> list[Part]:
-        """The answers to a path one after the other. A document that it names is in one share; the others' word that it isn't there
-        doesn't count, and where one has it none is left out."""
+    def _joined(self, path: str, ask: Callable[[Any], list[Part]], parts_each: int = 1) -> list[Part]:
+        """The answers to a path one after the other, with so many parts for each element. A document that it names is in one share; the others' word
+        that it isn't there doesn't count, and where one has it none is left out."""
         asked = self._asked(ask)
         faults = [it.exception() for it in asked]
         others = [it for it in faults if it and not isinstance(it, (NoSuchDocument, NoMachine))]
@@ -314,7 +333,7 @@ class Shares:
         if path.lstrip().startswith("doc") and None in faults:
             return found
         if lost:
-            raise LeftOut([name for share in lost for name in self._kept[share].documents], found)
+            raise LeftOut([name for share in lost for name in self._kept[share].documents], found[::parts_each])
         if absent:
             raise absent[0]
         return found

@@ -57,6 +57,15 @@ def written_attributes(element: etree._Element) -> Iterator[tuple[str, str]]:
         yield (f"{prefixes[space[1:]]}:{local}" if space else name), value
 
 
+def texts_of(element: etree._Element) -> Iterator[tuple[etree._Element, bool, str]]:
+    """The texts in an element, in their order: each that stands at the front of an element or behind its end (True), with that element."""
+    for event, it in etree.iterwalk(element, events=("start", "end")):
+        if event == "start" and it.text:
+            yield it, False, it.text
+        elif event == "end" and it.tail and it is not element:
+            yield it, True, it.tail
+
+
 def put_text(node: etree._Element, text: str) -> None:
     """Puts a text, and what follows the node, in the place of the node."""
     before, above = node.getprevious(), node.getparent()

@@ -25,6 +25,7 @@ from .faults import (
     NoSuchList,
     NoSuchName,
     NoTarget,
+    NothingToShow,
     OverLimit,
     ProgramEnded,
     ProgramMissing,
@@ -39,7 +40,7 @@ from .faults import (
 from .folders import Folder
 from .names import LATEST_FORMAT, Names, command_words, name_word
 from .program import find_program
-from .replies import Changes, Counts, Done, Element, Found, Reply, Said, Step
+from .replies import Changes, Counts, Done, Element, Found, Reply, Said, Shown, Step
 from .session import Engine, Position, Session
 
 __version__ = "0.1.0"
@@ -67,6 +68,7 @@ __all__ = [
     "NoSuchList",
     "NoSuchName",
     "NoTarget",
+    "NothingToShow",
     "OverLimit",
     "Position",
     "ProgramEnded",
@@ -79,6 +81,7 @@ __all__ = [
     "Session",
     "SessionClosed",
     "SessionFull",
+    "Shown",
     "Step",
     "TimedOut",
     "block_bytes",

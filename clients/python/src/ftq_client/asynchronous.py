@@ -12,7 +12,7 @@ from .blocks import Content
 from .folders import Folder
 from .names import LATEST_FORMAT
 from .program import MOST_BYTES
-from .replies import Changes, Counts, Element, Reply
+from .replies import Changes, Counts, Element, Reply, Shown
 from .session import Position, Session
 
 Answer = TypeVar("Answer")
@@ -71,6 +71,10 @@ class AsyncSession:
     async def print(self, path: str) -> list[str]:
         """As `Session.print`."""
         return await self._in_turn(lambda: self.session.print(path))
+
+    async def show(self, path: str) -> list[Shown]:
+        """As `Session.show`."""
+        return await self._in_turn(lambda: self.session.show(path))
 
     async def text(self, element: Element | str) -> str:
         """As `Session.text`."""

@@ -164,6 +164,13 @@ class OverLimit(Refusal):
     number, kind = 13, "limit"
 
 
+class NothingToShow(Refusal):
+    """`show` can't say why what the path selects is found: its last step doesn't end in a predicate `. contains text` alone, or the selection there has
+    `occurs` under a filter, or `ftnot` or `occurs` in an `ftnot`."""
+
+    number, kind = 15, "nothing to show"
+
+
 _FORMS: list[tuple[type[Refusal], re.Pattern[str]]] = [
     (BadCommand, re.compile(r"! 1 bad command at line (?P<line>\d+)")),
     (BadName, re.compile(r"! 2 bad name at line (?P<line>\d+)")),
@@ -180,6 +187,7 @@ _FORMS: list[tuple[type[Refusal], re.Pattern[str]]] = [
     (ManyTargets, re.compile(r"! 11 many targets: (?P<count>\d+)")),
     (RootTarget, re.compile(r"! 12 root target")),
     (OverLimit, re.compile(r"! 13 limit: (?P<kind>depth|nodes|tokens)")),
+    (NothingToShow, re.compile(r"! 15 nothing to show")),
 ]
 
 

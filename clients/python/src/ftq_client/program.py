@@ -66,10 +66,11 @@ class Process:
         """The number of the process, by which its memory can be looked at."""
         return self._child.pid
 
-    def ask(self, command: bytes) -> Reply:
-        """The reply to one command; a `Refusal` where it is refused, `ProgramEnded` where none comes."""
+    def ask(self, command: bytes, lines_each: int = 1) -> Reply:
+        """The reply to one command; a `Refusal` where it is refused, `ProgramEnded` where none comes. `lines_each` says how many lines stand for each of
+        those that the reply counts."""
         self.send(command)
-        return self.reply()
+        return self.reply(lines_each)
 
     def send(self, command: bytes) -> None:
         """Sends a command, whose reply is the next one after those of the commands before it."""
@@ -82,7 +83,7 @@ class Process:
         except BrokenPipeError:
             raise self._ended() from None
 
-    def reply(self) -> Reply:
+    def reply(self, lines_each: int = 1) -> Reply:
         """The next reply, as `ask` gives it."""
         first = self._line()
         if first == "ok":
@@ -91,7 +92,7 @@ class Process:
             raise refusal_of(first)
         text = first.removeprefix("= ")
         if text.isdecimal():
-            return Found(tuple(self._line() for _ in range(int(text))))
+            return Found(tuple(self._line() for _ in range(int(text) * lines_each)))
         return Said(text)
 
     def close(self) -> int:

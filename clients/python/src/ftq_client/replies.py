@@ -61,6 +61,45 @@ class Changes:
         return bool(self.went or self.came)
 
 
+@dataclass(frozen=True)
+class Shown:
+    """An element that `show` found: its place, its words as they are written, and the `spans` of those for which it is found, each from its first word
+    up to the one behind its last, counted from 0, so that `words[first:end]` are marked. Neighbouring marked words are one span."""
+
+    element: Element
+    words: tuple[str, ...]
+    spans: tuple[tuple[int, int], ...]
+
+    @classmethod
+    def read(cls, line: str, words: str) -> "Shown":
+        """What the two lines of an element say: the one that names it, and the one with its words, of which marked ones stand in brackets. No word has
+        a bracket or a blank in it, so that this is told by the words themselves."""
+        written = [it for it in words.split(" ") if it]
+        marked = {number for number, it in enumerate(written) if it[0] == "["}
+        firsts = sorted(it for it in marked if it - 1 not in marked)
+        ends = sorted(it + 1 for it in marked if it + 1 not in marked)
+        return cls(Element.read(line), tuple(it.removeprefix("[").removesuffix("]") for it in written), tuple(zip(firsts, ends)))
+
+    @property
+    def line(self) -> str:
+        """The program's line for the element."""
+        return self.element.line
+
+    @property
+    def marked(self) -> tuple[str, ...]:
+        """The words that are marked, in their order."""
+        return tuple(word for first, end in self.spans for word in self.words[first:end])
+
+    def __str__(self) -> str:
+        """The words as the program writes them, the marked ones in brackets."""
+        inside = {number for span in self.spans for number in range(*span)}
+        return " ".join(f"[{word}]" if number in inside else word for number, word in enumerate(self.words))
+
+
+LINES_EACH = {"show": 2}
+"""The commands whose replies have more than one line for each of those that they count, with how many that are."""
+
+
 def text_of(printed: str) -> str:
     """All text of an element as `print` writes it. A colon is a character of a name there, so that no prefix has to be declared."""
     texts: list[str] = []
@@ -77,7 +116,7 @@ class Done:
 
 @dataclass(frozen=True)
 class Found:
-    """`= N`, and the N lines after it."""
+    """`= N`, and the N lines after it; with `show` the 2N lines, in pairs."""
 
     lines: tuple[str, ...]
 

@@ -15,7 +15,7 @@ from .folders import Folder, named_files
 from .history import History
 from .names import LATEST_FORMAT, OPENINGS, command_words, name_word
 from .program import MOST_BYTES, Process, find_program
-from .replies import Changes, Counts, Done, Element, Found, Reply, Said, text_of
+from .replies import LINES_EACH, Changes, Counts, Done, Element, Found, Reply, Said, Shown, text_of
 
 Wanted = TypeVar("Wanted", Done, Found, Said)
 
@@ -130,6 +130,12 @@ class Session:
         """The elements that the path selects as XML, each on one line, in the order of `query`."""
         return list(self._said(self.command(f"print {path}"), Found).lines)
 
+    def show(self, path: str) -> list[Shown]:
+        """The elements that the path selects, each with its words, and those marked by which it is found; the path ends in a predicate `. contains text`
+        alone. `NothingToShow` where that can't be said, a `BadCommand` in a session of format 1."""
+        lines = self._said(self.command(f"show {path}"), Found).lines
+        return [Shown.read(line, words) for line, words in zip(lines[::2], lines[1::2])]
+
     def text(self, element: Element | str) -> str:
         """All text inside an element that was found, or inside the one that a path selects; a `ValueError` where it selects none or several."""
         path = element if isinstance(element, str) else element.line
@@ -195,17 +201,18 @@ class Session:
         program would answer.
         """
         command = command_bytes(line, block, self.session_format)
+        word = command_words(line, self.session_format)[0]
         process = self._ready(len(command))
         try:
             with self._in_time(process):
-                reply = process.ask(command)
+                reply = process.ask(command, LINES_EACH.get(word, 1))
         except Refusal:
             raise
         except BaseException:
             process.kill()
             self._process = None
             raise
-        if isinstance(reply, Done) or command_words(line, self.session_format)[0] == "changes":
+        if isinstance(reply, Done) or word == "changes":
             self._history.add(line, command, self.session_format)
         return reply
 

@@ -9,12 +9,13 @@ from typing import Iterator, Union
 
 from ftq_client import ClientError, Element, QueryFault, Refusal, TimedOut
 
-from ..answers import asked_of, in_words, shown_attributes
+from ..answers import Manner, in_words, shown_attributes
 from ..collection import Collection
 from ..locating import Located
+from ..marking import Marking, hint_of
 from ..missing import all_hints
 from ..mistakes import FAULTS, advice_for
-from ..showing import Piece, shortened
+from ..showing import Piece
 from .desk import Desk, document_of, name_of
 from .questions import Question, Stopped
 
@@ -109,8 +110,9 @@ def answer(desk: Desk, question: Question, wish: Wish) -> Iterator[Part]:
     try:
         found = desk.found(view, wish.path)
         yield counted(view, found, wish)
-        yield from hits(view, question, wish.taken(found), wish)
-        hints = all_hints(wish.path, len(found), view)
+        marking = Marking(wish.path, view)
+        yield from hits(view, question, wish.taken(found), wish, marking)
+        hints = all_hints(wish.path, len(found), view) + hint_of(marking, view)
     except Refusal as refusal:
         yield refused(wish.path, refusal, view)
         return
@@ -144,16 +146,15 @@ def counted(view: Collection, found: list[str], wish: Wish) -> Counted:
     )
 
 
-def hits(view: Collection, question: Question, taken: list[str], wish: Wish) -> Iterator[Hit]:
+def hits(view: Collection, question: Question, taken: list[str], wish: Wish, marking: Marking) -> Iterator[Hit]:
     """The elements that are shown, in their order."""
-    asked = asked_of(wish.path, view)
     inside = Counter(map(document_of, taken[: wish.offset]))
     for number, line in enumerate(taken[wish.offset : wish.offset + wish.limit], wish.offset + 1):
         question.left()
         element = Element.read(line)
         inside[element.document] += 1
         located = view.locator.locate(element)
-        pieces = [Piece(located.text)] if wish.whole and located.text else shortened(located.shown, asked)
+        pieces = Manner(wish.whole).rows(located, marking.of(element))[0]
         attributes = shown_attributes(located) if not pieces and located.attributes else ""
         yield Hit(number, inside[element.document], located, pieces, attributes)
 

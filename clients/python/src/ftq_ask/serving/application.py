@@ -17,7 +17,7 @@ from starlette.routing import Route
 
 from ftq_client import ClientError, Element, Refusal
 
-from ..answers import asked_of
+from ..marking import Marking
 from ..showing import Piece, shortened
 from . import interface, pages
 from .addresses import Addresses, number_of, once, wish_of
@@ -115,13 +115,13 @@ def shown(desk: Desk, question: Question, wish: Wish, name: str, hit: int, sheet
             return
         taken = replace(wish, document=name).taken(desk.found(view, wish.path)) if wish.path else []
         found = [Element.read(it) for it in taken]
-        asked = asked_of(wish.path, view)
-        sheets = Sheets(document, found, asked, view.rules.blocks)
+        marking = Marking(wish.path, view, not wish.element)
+        sheets = Sheets(document, found, marking, view.rules.blocks)
         number = min(max(sheet or sheets.sheet_of(hit), 1), sheets.count)
         listed = []
         for place, element in enumerate(found[:MOST_LISTED], 1):
             located = view.locator.locate(element)
-            pieces = shortened(located.shown, asked, 60) if place <= MOST_PASSAGES else []
+            pieces = shortened(located.shown, marking.of(element), 60) if place <= MOST_PASSAGES else []
             listed.append(Listed(place, element.steps[-1].name, located.line, pieces))
         yield Shown(str(view.sources[name].path), sheets.sheet(number), number, sheets.count, len(found), listed)
     except Refusal as refusal:

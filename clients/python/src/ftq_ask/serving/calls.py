@@ -152,6 +152,7 @@ class Calls:
         placed(view, Places(self._paths, options.paths))
         try:
             tell(view, errors)
+            view.seconds = options.timeout
             view.engine.give_up_after(options.timeout)
             return answer_all(view, options, errors, out)
         except (NoList, ClientError) as error:

@@ -37,10 +37,11 @@ def name_of(line: str) -> str:
     return line[line.rindex("/") + 1 : line.rindex("[")]
 
 
-def _in_order_of(names: list[str]) -> Callable[[tuple[str, ...]], tuple[str, ...]]:
-    """Puts lines into the order of these documents. The programs have that of loading, which is another one once a file has changed."""
+def _in_order_of(names: list[str]) -> Callable[[list[tuple[str, ...]]], list[tuple[str, ...]]]:
+    """Puts the replies of elements into the order of these documents. The programs have that of loading, which is another one once a file has
+    changed."""
     ranks = {name: rank for rank, name in enumerate(names)}
-    return lambda lines: tuple(sorted(lines, key=lambda it: ranks.get(document_of(it), len(ranks))))
+    return lambda rows: sorted(rows, key=lambda it: ranks.get(document_of(it[0]), len(ranks)))
 
 
 class Busy(Exception):
@@ -124,9 +125,9 @@ class Desk:
         with self._lock:
             view = copy.copy(self.collection)
             view.sources = dict(self.collection.sources)
-        view.engine = Asking(self.pool, question, _in_order_of(list(view.sources)) if view.edition else lambda lines: lines)
+        view.engine = Asking(self.pool, question, _in_order_of(list(view.sources)) if view.edition else lambda rows: rows)
         view.as_typed = as_typed
-        view.told_of_apostrophes = False
+        view.told_of_apostrophes = view.told_of_marks = False
         view.locator = Locator(view.sources, view.rules, self.kept)
         return view
 

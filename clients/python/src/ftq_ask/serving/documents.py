@@ -12,9 +12,9 @@ from ftq_client import Element
 from ..locating import Document
 from ..limits import BLANKS
 from ..reading import BLOCKS
-from ..showing import Asked, Piece
-from ..trees import written_attributes, written_name
-from ..words import words_of
+from ..marking import Marking
+from ..showing import Hit, Piece, Words, pieces_of
+from ..trees import texts_of, written_attributes, written_name
 
 SHEET = 400
 """How many blocks a page shows."""
@@ -32,10 +32,10 @@ class Edge:
 
 @dataclass(frozen=True)
 class Text:
-    """A text, and whether it stands in an element that was found."""
+    """A text, with its marked words."""
 
     text: str
-    inside: bool
+    hits: tuple[Hit, ...]
 
 
 @dataclass
@@ -51,24 +51,25 @@ class Block:
     inside: bool = False
     """Whether the block stands in an element that was found."""
     texts: list[Text | Edge] = field(default_factory=list)
-    """What stands in it, before words are marked."""
+    """What stands in it."""
     parts: list[Piece | Edge] = field(default_factory=list)
-    """The same with marks, where it is shown."""
+    """The same in pieces, where it is shown."""
 
 
 class Sheets:
     """A document in blocks, for one question."""
 
-    def __init__(self, document: Document, found: list[Element], asked: Asked, blocks: frozenset[str] = frozenset()) -> None:
-        """With the elements of this document that a question found, and the words that it asks for."""
+    def __init__(self, document: Document, found: list[Element], marking: Marking, blocks: frozenset[str] = frozenset()) -> None:
+        """With the elements of this document that a question found, and their marks."""
         self._document = document
-        self._asked = asked
         self._parting = BLOCKS | blocks
         self._numbers: dict[etree._Element, int] = {}
+        self._hits: dict[tuple[etree._Element, bool], set[Hit]] = {}
         for number, element in enumerate(found, 1):
             place = document.find(element)
             if place is not None:
                 self._numbers[place] = number
+                self._mark(place, marking.of(element))
         self._open = 0
         self.blocks: list[Block] = []
         self.homes: dict[int, int] = {}
@@ -91,11 +92,18 @@ class Sheets:
         if isinstance(it, Edge):
             yield it
         else:
-            yield from marked(it.text, self._asked if it.inside else None)
+            yield from pieces_of(it.text, it.hits)
 
     def sheet_of(self, hit: int) -> int:
         """The sheet on which an element that was found begins."""
         return self.homes.get(hit, 0) // SHEET + 1
+
+    def _mark(self, place: etree._Element, words: Words) -> None:
+        """Takes note of the marked words of an element that was found, by the texts in which they stand."""
+        texts = list(texts_of(place))
+        for (element, behind, _), hits in zip(texts, words.hits_in([it for _, _, it in texts])):
+            if hits:
+                self._hits.setdefault((element, behind), set()).update((first, last, "") for first, last, _ in hits)
 
     def _element(self, element: etree._Element, depth: int) -> None:
         """An element in blocks of its own."""
@@ -122,14 +130,14 @@ class Sheets:
     def _inline(self, element: etree._Element, block: Block, depth: int) -> Block:
         """An element's text, with that of the elements in it, in a block; what parts paragraphs gets blocks of its own, and the text goes on in
         another one, which comes back."""
-        self._text(element.text, block)
+        self._text(element, False, block)
         for child in element:
             if written_name(child) in self._parting or _holds_elements(child):
                 self._element(child, depth + 1)
                 if child.tail and child.tail.strip(BLANKS):
                     block = Block("", min(depth, MOST_STEPS), None, inside=self._open > 0)
                     self.blocks.append(block)
-                    self._text(child.tail, block)
+                    self._text(child, True, block)
                 continue
             number = self._numbers.get(child)
             if number is not None:
@@ -141,25 +149,13 @@ class Sheets:
             if number is not None:
                 self._open -= 1
                 first.texts.append(Edge())
-            self._text(child.tail, block)
+            self._text(child, True, block)
         return block
 
-    def _text(self, text: str | None, block: Block) -> None:
+    def _text(self, element: etree._Element, behind: bool, block: Block) -> None:
+        text = element.tail if behind else element.text
         if text:
-            block.texts.append(Text(text, self._open > 0))
-
-
-def marked(text: str, asked: Asked | None) -> Iterator[Piece]:
-    """A text in pieces, those that were asked for marked."""
-    at = 0
-    for word in words_of(text) if asked else ():
-        if asked and asked.form(word[0]) is not None:
-            if word.start() > at:
-                yield Piece(text[at : word.start()])
-            yield Piece(word[0], True)
-            at = word.end()
-    if at < len(text):
-        yield Piece(text[at:])
+            block.texts.append(Text(text, tuple(sorted(self._hits.get((element, behind), ())))))
 
 
 def _holds_elements(element: etree._Element) -> bool:

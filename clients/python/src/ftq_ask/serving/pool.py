@@ -9,6 +9,7 @@ from concurrent.futures import ThreadPoolExecutor
 from typing import Any, Callable, cast
 
 from ftq_client import ClientError, Found, ProgramEnded, Refusal, Reply, TimedOut
+from ftq_client.replies import LINES_EACH
 
 from ..collection import NOWHERE
 from .questions import Question, Stopped
@@ -183,8 +184,8 @@ class Pool:
 class Asking:
     """A pool as one question sees it: an engine as those of the client are."""
 
-    def __init__(self, pool: Pool, question: Question, in_order: Callable[[tuple[str, ...]], tuple[str, ...]]) -> None:
-        """`in_order` puts the lines of elements into the order of the collection."""
+    def __init__(self, pool: Pool, question: Question, in_order: Callable[[list[tuple[str, ...]]], list[tuple[str, ...]]]) -> None:
+        """`in_order` puts the replies of elements, each of which begins with its line, into the order of the collection."""
         self._pool = pool
         self._question = question
         self._in_order = in_order
@@ -199,7 +200,12 @@ class Asking:
         if block is not None:
             raise ValueError("what is served isn't changed")
         reply = self._pool.ask(self._question, line, self._seconds)
-        return Found(self._in_order(reply.lines)) if isinstance(reply, Found) and line.startswith("query ") else reply
+        word = line.split(" ", 1)[0]
+        if not isinstance(reply, Found) or word not in ("query", "show"):
+            return reply
+        lines_each = LINES_EACH.get(word, 1)
+        rows = [reply.lines[at : at + lines_each] for at in range(0, len(reply.lines), lines_each)]
+        return Found(tuple(line for row in self._in_order(rows) for line in row))
 
     def stems(self, lines: bytes) -> None:
         """Gives the stems to all engines."""
