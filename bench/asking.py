@@ -31,19 +31,20 @@ class Conversation:
         self.child.stdout.close()
         self.child.wait()
 
-    def timed(self, command):
-        """The first line of the reply to a command, and the seconds from its first byte to the last one of the reply."""
+    def timed(self, command, lines_each=1):
+        """The first line of the reply to a command, and the seconds from its first byte to the last one of the reply; `show` has two lines for each
+        element."""
         start = time.perf_counter()
         self._write(command)
-        first = self._reply()
+        first = self._reply(lines_each)
         return first, time.perf_counter() - start
 
-    def answered(self, command):
-        """The lines of the reply to a command, its first one first."""
+    def answered(self, command, lines_each=1):
+        """The lines of the reply to a command, its first one first; `show` has two of them for each element."""
         self._write(command)
         first = self._line().decode("utf-8")
         more = int(first[2:]) if first.startswith("= ") and first[2:].isdigit() else 0
-        return [first] + [self._line().decode("utf-8") for _ in range(more)]
+        return [first] + [self._line().decode("utf-8") for _ in range(more * lines_each)]
 
     @contextlib.contextmanager
     def within(self, seconds):
@@ -83,10 +84,10 @@ class Conversation:
         while rest:
             rest = rest[os.write(self.child.stdin.fileno(), rest) :]
 
-    def _reply(self):
+    def _reply(self, lines_each=1):
         """Reads a reply to its end; its first line."""
         first = self._line()
-        missing = int(first[2:]) if first.startswith(b"= ") and first[2:].isdigit() else 0
+        missing = int(first[2:]) * lines_each if first.startswith(b"= ") and first[2:].isdigit() else 0
         while missing:
             ends = self.unread.count(b"\n")
             if ends >= missing:
