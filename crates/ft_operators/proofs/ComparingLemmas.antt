@@ -1,7 +1,8 @@
 -- Going through ways for the least includes of those that pass a test.
-use Rattle.std.proofs.Common.{◌≡◌, refl, ap, sym, ◌∙◌, ℕ, List, [], ◌∷◌, Bool, true, false, ◌&&◌, cond, filter, map}
+use Rattle.std.proofs.Common.{◌≡◌, refl, ap, sym, ◌∙◌, ℕ, List, [], ◌∷◌, Bool, true, false, ◌&&◌, cond, drop, filter, map}
 use Rattle.std.specs.Prelude.{Option, Some, None}
-use Rattle.std.specs.List.{list_any}
+use Rattle.std.specs.List.{list_all, list_any}
+use Rattle.std.proofs.lemmas.Bool.{and_parts}
 use Rattle.ft_base.specs.Lists.{is_not_empty}
 use Rattle.ft_base.specs.declared.hit.Hit.{Hit}
 use Rattle.ft_base.specs.declared.span.Span.{Span}
@@ -19,9 +20,11 @@ use Rattle.ft_operators.specs.Course.{tellings, ways_on}
 use Rattle.ft_operators.specs.Extents.{extent_beside, extent_inside}
 use Rattle.ft_operators.specs.Standing.{Standing}
 use Rattle.ft_operators.specs.steps.Cleaning.{tells}
-use Rattle.ft_operators.specs.steps.Comparing.{Comparing, least_after, so_far}
+use Rattle.ft_operators.specs.steps.Comparing.{Comparing, least_after, lesser_now, so_far}
 use Rattle.ft_operators.specs.steps.Measuring.{holds}
+use Rattle.ft_operators.specs.steps.Ordering.{is_before, rise}
 use Rattle.ft_operators.proofs.CourseLemmas.{any_kept, clean_and_told}
+use Rattle.ft_operators.proofs.OrderedWays.{first-stays}
 
 -- ---- the least of ways
 
@@ -64,13 +67,32 @@ after_end test kept (way ∷ rest) none = cc
 -- ---- at the end of the loop
 
 module _ (course : Course) (old now : Standing) (before after : Chain) (room now_room start end : ℕ) (there any : Bool) (hits : List Hit)
-    (l : Comparing course (clean_under (kept_by (links_of before))) old now before after room now_room start end there any hits) where
+    (in_order : Bool) (l : Comparing course (clean_under (kept_by (links_of before))) old now before after room now_room start end in_order there any hits) where
   pub comparing_ends : there ≡ false → tells course old.operator ≡ true → hits ≡ least (map way_includes (filter (clean_under (kept_by (links_of before))) (ways_on course old.operator)))
   comparing_ends none told =
       let test = clean_under (kept_by (links_of before)) in
       let ways = ways_on course old.operator in
       found_least any hits (map way_includes (filter test ways))
       (after_end test (so_far any hits) now.rest (sym l.there_now ∙ none) ∙ l.passed told ∙ after_none test ways) l.none
+
+-- ---- ways that come in order
+
+-- the first of them that passes the test has the least
+pub first_kept : (test : Way → Bool) (ways rest : List Way) (hits : List Hit) → rise rest ≡ true → least_after test None rest ≡ least_after test None ways → Some hits ≡ lesser_now test None rest
+    → hits ≡ least (map way_includes (filter test ways))
+first_kept test ways [] hits rising passed now = cc
+first_kept test ways (way ∷ rest) hits rising passed now =
+    found_least true hits (map way_includes (filter test ways)) (by (test way) now passed ∙ after_none test ways) (λ e. cc)
+  where
+    by : (b : Bool) → Some hits ≡ cond b (Some (way_includes way)) None → least_after test (cond b (Some (way_includes way)) None) rest ≡ least_after test None ways
+        → Some hits ≡ least_after test None ways
+    by true one all = one ∙ sym (first-stays test way rest (and_parts (list_all (is_before way) rest) (rise rest) rising).0) ∙ all
+    by false one all = cc
+
+-- one way further on
+pub rise_on : (ways : List Way) → rise ways ≡ true → rise (drop 1 ways) ≡ true
+rise_on [] h = refl
+rise_on (way ∷ rest) h = (and_parts (list_all (is_before way) rest) (rise rest) h).1
 
 -- ---- the ways that tell which are clean have the least of all ways
 

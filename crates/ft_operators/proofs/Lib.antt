@@ -13,6 +13,8 @@ pub mod SeenLemmas
 pub mod FreeLemmas
 pub mod ChainLemmas
 pub mod CleanLemmas
+pub mod OrderedNodes
+pub mod OrderedWays
 pub mod ComparingLemmas
 pub mod PlaceLemmas
 pub mod AnswerLemmas

@@ -6,3 +6,4 @@ pub mod Apart
 pub mod Cleaning
 pub mod Comparing
 pub mod Measuring
+pub mod Ordering

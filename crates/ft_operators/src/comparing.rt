@@ -6,6 +6,7 @@ ghost use Rattle.all_matches.specs.Ways.{clean_under, way_includes};
 ghost use Rattle.best_hits.specs.Least as spec;
 ghost use Rattle.ft_operators.specs.Chains.{links_of, spare_filters, spare_hits};
 ghost use Rattle.ft_operators.specs.Course.{ways_on};
+ghost use Rattle.ft_operators.specs.Ordered.{comes_in_order};
 ghost use Rattle.ft_operators.specs.steps.Cleaning.{MayAsk, tells};
 ghost use Rattle.ft_operators.specs.steps.Comparing.{Compared, GoneThrough, Looked, lesser, so_far};
 ghost use Rattle.ft_operators.specs.steps.Nodes.{standing};
@@ -21,15 +22,18 @@ use ft_base::{Hit, Memory, Steps};
 use std::sync::ledger::Ledger;
 
 /// Puts the least includes of the node's ways that are clean under the chain in the place of what `least` holds, and no hit where
-/// no way is clean. `held` is memory for the hits of ways, and what it holds is of no account.
+/// no way is clean. `held` is memory for the hits of ways, and what it holds is of no account. Where the ways come in the order of their
+/// includes (`in_order`) it ends at the first clean one.
 pub(crate) fn least_of_clean<P: PhraseHits, L: Ledger>(
     node: &mut Node<P>,
     course: Course,
+    in_order: bool,
     chain: &mut Chain,
     held: &mut Vec<Hit>,
     least: &mut Vec<Hit>,
     steps: &mut Steps<L>,
 ) -> Result<(), Memory>
+    requires order { in_order ≡ true → comes_in_order (standing P.state course node.old).operator ≡ true }
     requires fits { (standing P.state course node.old).shape.room ≤ vec_capacity held.old }
     requires filters { (standing P.state course node.old).shape.filters ≤ spare_filters chain.old }
     requires hits { (standing P.state course node.old).shape.hits ≤ spare_hits chain.old }
@@ -44,6 +48,9 @@ pub(crate) fn least_of_clean<P: PhraseHits, L: Ledger>(
     let mut there = first(node, course, held, steps);
     while there {
         any = keep_if_clean(node, course, chain, held, any, least, steps)?;
+        if any && in_order {
+            return Ok(());
+        }
         there = go_on(node, course, held, steps);
     }
     Ok(())
@@ -104,7 +111,7 @@ fn come_before(hits: &[Hit], others: &[Hit]) -> bool
     hits.len() < others.len()
 }
 
-fn is_earlier(hit: &Hit, other: &Hit) -> bool
+pub(crate) fn is_earlier(hit: &Hit, other: &Hit) -> bool
     ensures { result ≡ spec.is_earlier hit.now other.now }
 {
     hit.from < other.from || (hit.from == other.from && hit.to < other.to)

@@ -16,6 +16,7 @@ ghost use Rattle.ft_operators.specs.Extents.{most_between, no_include, one_inclu
 ghost use Rattle.ft_operators.specs.Course.{admitted, asked_for, course_inside, course_out, every, number_among, telling, ways_on};
 ghost use Rattle.ft_operators.specs.KeptBounds.{chain_bounds, kept_bounds};
 ghost use Rattle.ft_operators.specs.declared.course.Windows.TheVariants.{Each, First, Telling};
+ghost use Rattle.ft_operators.specs.Ordered.{comes_in_order};
 ghost use Rattle.ft_operators.specs.Walk.{at_next_way, own_span};
 
 /// The first word of a span is its word 1.
@@ -251,4 +252,20 @@ pub fn bounds_of_excludes()
     ensures of_a_distance { kept_bounds (F.Distance (Exactly 3) Words) (at 5 ∷ []) None (words_between 4 7) ≡ words_between 4 7 }
     ensures of_two_filters { chain_bounds (link F.SameSentence None (at 5 ∷ []) ∷ link (F.Window 3 Words) (round_from 3 (pos 4)) (at 5 ∷ []) ∷ []) everywhere
         ≡ record (words_between 4 7) { sentences = between 1 2 } }
+{}
+
+/// Ways come in the order of their includes where one hit of each of some phrases is chosen, whose hits rise, and no filter joins them.
+pub fn orders()
+    ensures rising { comes_in_order (phrase (at 1 ∷ at 2 ∷ [])) ≡ true }
+    ensures twice_at_a_place { comes_in_order (phrase (at 1 ∷ at 1 ∷ [])) ≡ false }
+    ensures falling { comes_in_order (phrase (at 1 ∷ at 3 ∷ at 2 ∷ [])) ≡ false }
+    ensures both_sides { comes_in_order (together (phrase (at 2 ∷ [])) (phrase (at 1 ∷ []))) ≡ true }
+    ensures one_side_falls { comes_in_order (together (phrase (at 1 ∷ [])) (phrase (at 2 ∷ at 1 ∷ []))) ≡ false }
+    ensures other_side_falls { comes_in_order (together (phrase (at 2 ∷ at 1 ∷ [])) (phrase (at 1 ∷ []))) ≡ false }
+    ensures one_or_the_other { comes_in_order (either (phrase (at 1 ∷ [])) (phrase (at 2 ∷ []))) ≡ false }
+    ensures standing_out { comes_in_order (apart (phrase (at 1 ∷ [])) (either (phrase []) (phrase []))) ≡ true }
+    ensures not_there { comes_in_order (negated (either (phrase []) (phrase []))) ≡ true }
+    ensures behind_order { comes_in_order (through_filter (phrase (at 1 ∷ [])) F.Ordered) ≡ true }
+    ensures behind_a_window { comes_in_order (through_filter (phrase (at 1 ∷ [])) (F.Window 2 Words)) ≡ false }
+    ensures behind_a_distance { comes_in_order (through_filter (phrase (at 1 ∷ [])) (F.Distance (AtMost 2) Words)) ≡ false }
 {}

@@ -12,6 +12,9 @@
 //! apart the includes before a distance may lie follows from how many they are and how many words they have, which is read
 //! off the hits before (`measuring`). So does how far from the hits of the left side of a mild not an include of the right
 //! side lies that covers them, where each way of the right side has no more than one.
+//!
+//! Of the clean ways the one whose includes come first by their places is found by going through all of them (`comparing`), but for ways that
+//! come in the order of their includes: there it is the first clean one (`ordering`).
 #![tactic(auto)]
 
 mod aiming;
@@ -31,6 +34,7 @@ mod kept_bounds;
 mod measuring;
 mod narrowing;
 mod node;
+mod ordering;
 mod own_span;
 mod phrase_hits;
 mod probing;

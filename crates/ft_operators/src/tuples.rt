@@ -16,6 +16,7 @@ use crate::gathering::hold;
 use crate::joining::joined_memory;
 use crate::measuring::extents_inside;
 use crate::node::Node;
+use crate::ordering::comes_in_order;
 use crate::own_span::own_span;
 use crate::walking::{first, go_on};
 use all_matches::Window;
@@ -269,10 +270,12 @@ impl<P: PhraseHits + Drop> Tuples<P> {
         let tellings = tellings(self.item, extents.inside, extents.beside);
         some_is_clean(&mut self.node, tellings, chain, &mut self.held, steps)
     }
+
     /// Aims the phrases at the span of the document, and puts the includes of one of its clean ways in the place of what `least` holds:
     /// those that come first, hit by hit by their places; and no hit where no way is clean. Negated selections stand neither inside one
-    /// another nor inside mild not; else nothing is said of what is put. It goes through no more ways than `satisfied_at`, and takes no
-    /// memory but for `least`.
+    /// another nor inside mild not; else nothing is said of what is put. It goes through no more ways than `satisfied_at` does where none is
+    /// clean and, where one hit of each of some phrases is chosen and no filter joins them, ends at the first clean one. It takes no memory
+    /// but for `least`.
     pub fn least_at<L: Ledger>(
         &mut self,
         doc: DocId,
@@ -294,11 +297,13 @@ impl<P: PhraseHits + Drop> Tuples<P> {
         ensures grown { steps.old ≤ steps.new }
     {
         self.aim(doc, span, steps);
+        let in_order = comes_in_order(&mut self.node, steps);
         let extents = extents_inside(&mut self.node, steps);
         let tellings = tellings(self.item, extents.inside, extents.beside);
         least_of_clean(
             &mut self.node,
             tellings,
+            in_order,
             chain,
             &mut self.held,
             least,

@@ -10,6 +10,7 @@ use Rattle.ft_operators.specs.Chains.{IsKept}
 use Rattle.ft_operators.specs.Course.{ways_on}
 use Rattle.ft_operators.specs.Standing.{Standing, frame}
 use Rattle.ft_operators.specs.steps.Cleaning.{tells}
+use Rattle.ft_operators.specs.steps.Ordering.{rise}
 
 -- the least so far, if there is one
 abbrev pub so_far : Bool → List Hit → Option (List Hit)
@@ -53,10 +54,13 @@ pub record GoneThrough (old now : Standing) (before after : Chain) (room new_roo
   pub kept_room : room ≤ new_room
   pub grown : start ≤ end
 
--- what the loop keeps: what is kept and the ways that are left have the least of all ways
+-- what the loop keeps: what is kept and the ways that are left have the least of all ways. Where the ways come in order nothing is kept yet,
+-- since the first that is has the least
 pub record Comparing (course : Course) (test : Way → Bool) (old now : Standing) (before after : Chain) (room new_room start end : ℕ)
-    (there any : Bool) (least : List Hit) : Type 0 where
+    (in_order there any : Bool) (least : List Hit) : Type 0 where
   pub walk : GoneThrough old now before after room new_room start end
   pub there_now : there ≡ is_not_empty now.rest
   pub passed : tells course old.operator ≡ true → least_after test (so_far any least) now.rest ≡ least_after test None (ways_on course old.operator)
   pub none : any ≡ false → least ≡ []
+  pub waits : in_order ≡ true → any ≡ false
+  pub rising : in_order ≡ true → rise now.rest ≡ true

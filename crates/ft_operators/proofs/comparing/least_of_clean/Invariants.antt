@@ -10,7 +10,7 @@ use Rattle.ft_operators.proofs.comparing.least_of_clean.Given as goal
 abbrev pub invariant-loop-there : goal.invariant-loop-there
 invariant-loop-there g l =
     let at = standing g.P.PhraseHits.state l.course in
-    Comparing l.course (clean_under (kept_by (links_of l.fn.chain))) (at l.fn.node) (at l.node) l.fn.chain l.chain (vec_capacity l.fn.held) (vec_capacity l.held) l.fn.steps l.steps l.there l.any l.least.items
+    Comparing l.course (clean_under (kept_by (links_of l.fn.chain))) (at l.fn.node) (at l.node) l.fn.chain l.chain (vec_capacity l.fn.held) (vec_capacity l.held) l.fn.steps l.steps l.in_order l.there l.any l.least.items
 
 abbrev pub decreases-loop-there : goal.decreases-loop-there
 decreases-loop-there g l = length ((standing g.P.PhraseHits.state l.course l.node).rest)

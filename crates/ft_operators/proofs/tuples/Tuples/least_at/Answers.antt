@@ -8,6 +8,7 @@ use Rattle.best_hits.specs.Least.{least as least_of}
 use Rattle.ft_operators.specs.Course.{tellings, ways_on}
 use Rattle.ft_operators.specs.Chains.{links_of}
 use Rattle.ft_operators.specs.Extents.{extent_beside, extent_inside}
+use Rattle.ft_operators.specs.Ordered.{comes_in_order}
 use Rattle.ft_operators.specs.steps.Cleaning.{tells}
 use Rattle.ft_operators.specs.steps.Measuring.{holds}
 use Rattle.ft_operators.specs.steps.Nodes.{standing}
@@ -21,7 +22,7 @@ pub least_of_clean-requires-clause-fits : goal.least_of_clean-requires-clause-fi
 least_of_clean-requires-clause-fits g c =
     let self = c.aim.new.self in
     let node = c.extents_inside-extents.new.node in
-    let same = ap (λ s. s.room) (told_shape g.P.PhraseHits.state c.tellings-tellings.result self.node node c.extents_inside-extents.ensures.same) in
+    let same = ap (λ s. s.room) (told_shape g.P.PhraseHits.state c.tellings-tellings.result self.node node (c.extents_inside-extents.ensures.same ∙ c.comes_in_order-in_order.ensures.same)) in
     let fits = self.fits in
     omega arith
 
@@ -29,7 +30,7 @@ pub least_of_clean-requires-clause-filters : goal.least_of_clean-requires-clause
 least_of_clean-requires-clause-filters g c =
     let self = c.aim.new.self in
     let node = c.extents_inside-extents.new.node in
-    let same = ap (λ s. s.filters) (told_shape g.P.PhraseHits.state c.tellings-tellings.result self.node node c.extents_inside-extents.ensures.same) in
+    let same = ap (λ s. s.filters) (told_shape g.P.PhraseHits.state c.tellings-tellings.result self.node node (c.extents_inside-extents.ensures.same ∙ c.comes_in_order-in_order.ensures.same)) in
     let filters = self.filters in
     let room = ap (λ r. r.filters) c.aim.ensures.room in
     omega (arith, c.requires.filters)
@@ -38,7 +39,7 @@ pub least_of_clean-requires-clause-hits : goal.least_of_clean-requires-clause-hi
 least_of_clean-requires-clause-hits g c =
     let self = c.aim.new.self in
     let node = c.extents_inside-extents.new.node in
-    let same = ap (λ s. s.hits) (told_shape g.P.PhraseHits.state c.tellings-tellings.result self.node node c.extents_inside-extents.ensures.same) in
+    let same = ap (λ s. s.hits) (told_shape g.P.PhraseHits.state c.tellings-tellings.result self.node node (c.extents_inside-extents.ensures.same ∙ c.comes_in_order-in_order.ensures.same)) in
     let hits = self.hits in
     let room = ap (λ r. r.hits) c.aim.ensures.room in
     omega (arith, c.requires.hits)
@@ -46,7 +47,7 @@ least_of_clean-requires-clause-hits g c =
 pub invariant_of-self : goal.invariant_of-self
 invariant_of-self g c =
     let self = c.aim.new.self in
-    let same = told_kept g.P.PhraseHits.state c.tellings-tellings.result self.node c.extents_inside-extents.new.node c.extents_inside-extents.ensures.same c.least_of_clean.new.node c.least_of_clean.ensures.walk.same in
+    let same = told_kept g.P.PhraseHits.state c.tellings-tellings.result self.node c.extents_inside-extents.new.node (c.extents_inside-extents.ensures.same ∙ c.comes_in_order-in_order.ensures.same) c.least_of_clean.new.node c.least_of_clean.ensures.walk.same in
     let room = ap (λ s. s.room) same in
     let fits = self.fits in
     let kept = c.least_of_clean.ensures.walk.kept_room in
@@ -56,13 +57,19 @@ invariant_of-self g c =
       hits = subst (λ s. s.hits ≤ self.room.hits) (sym same) self.hits;
     }
 
+pub least_of_clean-requires-clause-order : goal.least_of_clean-requires-clause-order
+least_of_clean-requires-clause-order g c in_order =
+    let node = c.extents_inside-extents.new.node in
+    let operator = ap (λ f. f.operator) (frame_same g.P.PhraseHits.state c.tellings-tellings.result node) ∙ ap (λ f. f.operator) (c.extents_inside-extents.ensures.same ∙ c.comes_in_order-in_order.ensures.same) in
+    ap comes_in_order operator ∙ sym c.comes_in_order-in_order.ensures.found ∙ in_order
+
 pub returns-clause-least : goal.returns-clause-least
 returns-clause-least g c =
     let self = c.aim.new.self in
     let state = g.P.PhraseHits.state in
     let links = links_of c.args.chain.now in
     let node = c.extents_inside-extents.new.node in
-    let aimed = ap (λ w. w.operator) c.aim.ensures.walk in
+    let aimed = ap (λ f. f.operator) c.comes_in_order-in_order.ensures.same ∙ ap (λ w. w.operator) c.aim.ensures.walk in
     let operator = ap (λ f. f.operator) (frame_same state c.tellings-tellings.result node) ∙ ap (λ f. f.operator) c.extents_inside-extents.ensures.same ∙ aimed in
     let item = ap (λ w. w.item) c.aim.ensures.walk in
     let told = c.extents_inside-extents.result in
@@ -80,5 +87,5 @@ returns-clause-walk g c =
     let self = c.aim.new.self in
     let state = g.P.PhraseHits.state in
     let new = c.least_of_clean.new.node in
-    let same = told_frame state c.tellings-tellings.result self.node c.extents_inside-extents.new.node c.extents_inside-extents.ensures.same new c.least_of_clean.ensures.walk.same in
+    let same = told_frame state c.tellings-tellings.result self.node c.extents_inside-extents.new.node (c.extents_inside-extents.ensures.same ∙ c.comes_in_order-in_order.ensures.same) new c.least_of_clean.ensures.walk.same in
     through_shown state self.item self.node new same self.there self.held.items c.least_of_clean.new.held.items (ap (λ w. w.tuple) c.aim.ensures.walk) ∙ c.aim.ensures.walk
