@@ -1,9 +1,10 @@
--- Phrases grouped by their lengths, and what becomes of their words.
+-- Phrases grouped by their lengths, what becomes of their words, and sums over them.
 use Rattle.std.proofs.Common.{◌≡◌, refl, sym, ap, ◌∙◌, ℕ, ◌==◌, Bool, true, false, List, [], ◌∷◌, ◌++◌, map, fold, cond, length, ◌+◌, ◌<◌, get_or, take, arith, Option, Some, None}
 use Rattle.std.specs.Prelude.{flat_map, nat_eq}
+use Rattle.std.specs.List.{sum_by}
 use Rattle.std.specs.Map.{lookup, set_value}
 use Rattle.std.proofs.lemmas.List.{take_more, map-append, length-map}
-use Rattle.std.proofs.lemmas.List.Sums.{fold_push}
+use Rattle.std.proofs.lemmas.List.Sums.{fold_push, sum_by-cons, sum_by_push}
 use Rattle.all_matches.specs.Counting.{put_variant, with_variant, by_length}
 use Rattle.indexmap.specs.IndexMap.{insert_entry}
 use Rattle.plan_compiler.specs.GroupedTests.{put_after}
@@ -82,3 +83,39 @@ module _ {X : Type 0} where
       by_found : (found : Option (List (List X))) → lookup (nat_eq (length (item ∷ items))) groups ≡ found → put_after groups (item ∷ items) found ≡ put_variant (item ∷ items) groups
       by_found None e = put_first (item ∷ items) groups e
       by_found (Some found) e = put_found (item ∷ items) groups found e
+
+-- ---- sums over lists of one length together
+
+module _ {X : Type 0} (f : List X → ℕ) (none : f [] ≡ 0) where
+  abbrev pub of_group : ℕ × List (List X) → ℕ
+  of_group group = sum_by f group.1
+
+  put_sum : (variant : List X) (groups : List (ℕ × List (List X))) → sum_by of_group (put_variant variant groups) ≡ sum_by of_group groups + f variant
+  put_sum variant [] = omega arith
+  put_sum variant (group ∷ groups) =
+      let rest = put_sum variant groups in
+      let was = sum_by-cons of_group group groups in
+      elim (length variant == group.0) as (λ t. sum_by of_group (cond t ((group.0, group.1 ++ variant ∷ []) ∷ groups) (group ∷ put_variant variant groups)) ≡ sum_by of_group (group ∷ groups) + f variant) [
+        | true ↦
+            let now = sum_by-cons of_group (group.0, group.1 ++ variant ∷ []) groups in
+            let more = sum_by_push f group.1 variant in
+            omega (arith, was, now, more)
+        | false ↦
+            let now = sum_by-cons of_group group (put_variant variant groups) in
+            omega (arith, was, now, rest)
+      ]
+
+  with_sum : (groups : List (ℕ × List (List X))) (variant : List X) → sum_by of_group (with_variant groups variant) ≡ sum_by of_group groups + f variant
+  with_sum groups [] = omega (arith, none)
+  with_sum groups (x ∷ variant) = put_sum (x ∷ variant) groups
+
+  fold_sum : (groups : List (ℕ × List (List X))) (variants : List (List X)) → sum_by of_group (fold with_variant groups variants) ≡ sum_by of_group groups + sum_by f variants
+  fold_sum groups [] = omega arith
+  fold_sum groups (variant ∷ variants) =
+      let rest = fold_sum (with_variant groups variant) variants in
+      let one = with_sum groups variant in
+      let all = sum_by-cons f variant variants in
+      omega (arith, rest, one, all)
+
+  pub by_length-sum : (variants : List (List X)) → sum_by of_group (by_length variants) ≡ sum_by f variants
+  by_length-sum variants = let all = fold_sum [] variants in omega (arith, all)

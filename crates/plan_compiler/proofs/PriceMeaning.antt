@@ -1,13 +1,13 @@
 -- The tests of compiled words have together at most the price of the words.
-use Rattle.std.proofs.Common.{◌≡◌, ◌≤◌, refl, ap, sym, ◌∙◌, ℕ, ◌+◌, ◌==◌, Bool, true, false, List, [], ◌∷◌, ◌++◌, map, fold, cond, length, arith}
+use Rattle.std.proofs.Common.{◌≡◌, ◌≤◌, refl, ap, sym, ◌∙◌, ℕ, ◌+◌, Bool, true, List, [], ◌∷◌, map, fold, length, arith}
 use Rattle.std.specs.BTreeSet.{insert_key}
 use Rattle.std.specs.List.{sum_by}
 use Rattle.std.specs.Ordering.{match_ordering}
 use Rattle.std.specs.declared.cmp.Ordering.TheVariants.{Less, Equal, Greater}
-use Rattle.std.proofs.lemmas.List.Sums.{sum_by-cons, sum_by_push}
+use Rattle.std.proofs.lemmas.List.Sums.{sum_by-cons}
 use Rattle.ft_base.specs.declared.options.Options.{Options}
 use Rattle.ft_base.specs.declared.words.Words.{Words}
-use Rattle.all_matches.specs.Counting.{by_length, put_variant, with_variant}
+use Rattle.all_matches.specs.Counting.{by_length}
 use Rattle.all_matches.specs.Meaning.{phrases_by}
 use Rattle.all_matches.specs.Variants.{Item, word, reached_keys, without_stop_word}
 use Rattle.index_meaning.specs.Entries.{Entry}
@@ -29,45 +29,10 @@ use Rattle.plan_compiler.specs.declared.phrase_plan.PhrasePlan.{PhrasePlan}
 use Rattle.plan_compiler.specs.declared.reading.Reading.{Reading}
 use Rattle.plan_compiler.specs.declared.text_word.TextWord.{TextWord}
 use Rattle.plan_compiler.specs.declared.words_plan.WordsPlan.{WordsPlan}
+use Rattle.plan_compiler.proofs.GroupLemmas.{by_length-sum, of_group}
 use Rattle.plan_compiler.proofs.PhraseMeaning.{read_phrases, word_passes}
 use Rattle.plan_compiler.proofs.SumLemmas.{sum_over, sum_over_le}
 use Rattle.thesaurus_file.specs.Phrases.{Phrase, in_order, phrase_cmp}
-
--- ---- sums over lists of one length together
-
-module _ {X : Type 0} (f : List X → ℕ) (none : f [] ≡ 0) where
-  abbrev of_group : ℕ × List (List X) → ℕ
-  of_group group = sum_by f group.1
-
-  put_sum : (variant : List X) (groups : List (ℕ × List (List X))) → sum_by of_group (put_variant variant groups) ≡ sum_by of_group groups + f variant
-  put_sum variant [] = omega arith
-  put_sum variant (group ∷ groups) =
-      let rest = put_sum variant groups in
-      let was = sum_by-cons of_group group groups in
-      elim (length variant == group.0) as (λ t. sum_by of_group (cond t ((group.0, group.1 ++ variant ∷ []) ∷ groups) (group ∷ put_variant variant groups)) ≡ sum_by of_group (group ∷ groups) + f variant) [
-        | true ↦
-            let now = sum_by-cons of_group (group.0, group.1 ++ variant ∷ []) groups in
-            let more = sum_by_push f group.1 variant in
-            omega (arith, was, now, more)
-        | false ↦
-            let now = sum_by-cons of_group group (put_variant variant groups) in
-            omega (arith, was, now, rest)
-      ]
-
-  with_sum : (groups : List (ℕ × List (List X))) (variant : List X) → sum_by of_group (with_variant groups variant) ≡ sum_by of_group groups + f variant
-  with_sum groups [] = omega (arith, none)
-  with_sum groups (x ∷ variant) = put_sum (x ∷ variant) groups
-
-  fold_sum : (groups : List (ℕ × List (List X))) (variants : List (List X)) → sum_by of_group (fold with_variant groups variants) ≡ sum_by of_group groups + sum_by f variants
-  fold_sum groups [] = omega arith
-  fold_sum groups (variant ∷ variants) =
-      let rest = fold_sum (with_variant groups variant) variants in
-      let one = with_sum groups variant in
-      let all = sum_by-cons f variant variants in
-      omega (arith, rest, one, all)
-
-  pub by_length-sum : (variants : List (List X)) → sum_by of_group (by_length variants) ≡ sum_by f variants
-  by_length-sum variants = let all = fold_sum [] variants in omega (arith, all)
 
 -- ---- sums over phrases in order, each once
 

@@ -47,7 +47,7 @@ use Rattle.plan_compiler.specs.declared.looks.Looks.{Looks}
 use Rattle.plan_compiler.specs.declared.node.Node.{Node}
 use Rattle.plan_compiler.specs.declared.node.Node as N
 use Rattle.plan_compiler.specs.declared.operator_plan.PhraseTests.{PhraseTests}
-use Rattle.plan_compiler.proofs.GroupLemmas.{by_length-map, map_group}
+use Rattle.plan_compiler.proofs.GroupLemmas.{by_length-map, by_length-sum, map_group, of_group}
 use Rattle.plan_compiler.proofs.NodeViews.{cheap-Counted, cost-Counted, truth-Counted}
 use Rattle.plan_compiler.proofs.SumLemmas.{sum_over_le}
 use Rattle.plan_kinds.specs.steps.RisingUnits.{started_rises}
@@ -64,7 +64,6 @@ use Rattle.plan_runs.specs.declared.run_counts.RunCounts.{RunCounts}
 use Rattle.plan_runs.specs.declared.run_node.RunNode as R
 use Rattle.plan_runs.proofs.OpenedLemmas.{group_cheap, variants_there}
 use Rattle.plan_runs.proofs.OpenedWays.{phrase_law}
-use Rattle.plan_runs.proofs.PutVariants.{group_sum, groups_cost}
 use Rattle.plan_runs.proofs.RunViews.{shape-Counted}
 
 -- ---- hits that are told so, and more of them behind
@@ -254,12 +253,12 @@ module _ (looks : Looks) (stems : List Stem) (version : List Numbered) where
   -- ---- what they cost, where no word costs more than its test
 
   module _ (word_cost : WordTerms → ℕ) (test_cost : ItemTest → ℕ) (most : (test : ItemTest) → word_cost (opened_item looks stems version test) ≤ test_cost test) where
-    phrases_paid : (phrases : List PhraseTests) → sum_by (group_sum word_cost) (flat_map (opened_groups looks stems version) phrases) ≤ phrases_cost test_cost phrases
+    phrases_paid : (phrases : List PhraseTests) → sum_by (of_group (sum_by word_cost) refl) (flat_map (opened_groups looks stems version) phrases) ≤ phrases_cost test_cost phrases
     phrases_paid [] = omega arith
     phrases_paid (found ∷ rest) =
-        let groups = groups_cost word_cost (map (opened_variant looks stems version) found.variants) in
+        let groups = by_length-sum (sum_by word_cost) refl (map (opened_variant looks stems version) found.variants) in
         let own = group_cheap looks stems version word_cost test_cost most found.variants in
-        let both = sum_by-append (group_sum word_cost) (opened_groups looks stems version found) (flat_map (opened_groups looks stems version) rest) in
+        let both = sum_by-append (of_group (sum_by word_cost) refl) (opened_groups looks stems version found) (flat_map (opened_groups looks stems version) rest) in
         let all = sum_by-cons (λ (one : PhraseTests). sum_by (sum_by test_cost) one.variants) found rest in
         let others = phrases_paid rest in
         omega (arith, groups, own, both, all, others)

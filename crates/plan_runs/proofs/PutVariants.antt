@@ -1,8 +1,6 @@
--- Where a variant is put: behind groups of other lengths, into the one of its length, or after all of them. So groups cost what their variants do.
-use Rattle.std.proofs.Common.{◌≡◌, ◌<◌, ◌≤◌, ◌==◌, ℕ, zero, suc, ◌+◌, Bool, true, false, cond, List, [], ◌∷◌, ◌++◌, fold, map, take, drop, length, get_or, slice_set, refl, sym, ap, ◌∙◌, arith}
-use Rattle.std.specs.List.{sum_by}
-use Rattle.std.proofs.lemmas.List.Sums.{sum_by-cons, sum_by_push}
-use Rattle.all_matches.specs.Counting.{by_length, put_variant, with_variant}
+-- Where a variant is put: behind groups of other lengths, into the one of its length, or after all of them.
+use Rattle.std.proofs.Common.{◌≡◌, ◌<◌, ◌≤◌, ◌==◌, ℕ, zero, suc, ◌+◌, Bool, true, false, cond, List, [], ◌∷◌, ◌++◌, map, take, drop, length, get_or, slice_set, refl, sym, ap, ◌∙◌, arith}
+use Rattle.all_matches.specs.Counting.{put_variant, with_variant}
 use Rattle.index_phrases.specs.declared.word_terms.WordTerms.{WordTerms}
 use Rattle.index_phrases.specs.steps.Aiming.{variant_words}
 use Rattle.plan_runs.specs.declared.run_counts.TermGroup.{TermGroup}
@@ -50,37 +48,3 @@ module _ (variant : List WordTerms) where
   put_last [] (suc n) past = refl
   put_last (first ∷ rest) zero past = absurd (omega (arith, past))
   put_last (first ∷ rest) (suc n) past = ap (λ (groups : TermGroups). entry first ∷ groups) (put_last rest n (omega (arith, past)))
-
-module _ (cost : WordTerms → ℕ) where
-  abbrev pub group_sum : ℕ × List (List WordTerms) → ℕ
-  group_sum group = sum_by (sum_by cost) group.1
-
-  put_cost : (variant : List WordTerms) (groups : TermGroups) → sum_by group_sum (put_variant variant groups) ≡ sum_by group_sum groups + sum_by cost variant
-  put_cost variant [] = omega arith
-  put_cost variant (group ∷ groups) =
-      let rest = put_cost variant groups in
-      let was = sum_by-cons group_sum group groups in
-      elim (length variant == group.0) as (λ t. sum_by group_sum (cond t ((group.0, group.1 ++ variant ∷ []) ∷ groups) (group ∷ put_variant variant groups)) ≡ sum_by group_sum (group ∷ groups) + sum_by cost variant) [
-        | true ↦
-            let now = sum_by-cons group_sum (group.0, group.1 ++ variant ∷ []) groups in
-            let more = sum_by_push (sum_by cost) group.1 variant in
-            omega (arith, was, now, more)
-        | false ↦
-            let now = sum_by-cons group_sum group (put_variant variant groups) in
-            omega (arith, was, now, rest)
-      ]
-
-  with_cost : (groups : TermGroups) (variant : List WordTerms) → sum_by group_sum (with_variant groups variant) ≡ sum_by group_sum groups + sum_by cost variant
-  with_cost groups [] = omega arith
-  with_cost groups (word ∷ variant) = put_cost (word ∷ variant) groups
-
-  fold_cost : (groups : TermGroups) (variants : List (List WordTerms)) → sum_by group_sum (fold with_variant groups variants) ≡ sum_by group_sum groups + sum_by (sum_by cost) variants
-  fold_cost groups [] = omega arith
-  fold_cost groups (variant ∷ variants) =
-      let rest = fold_cost (with_variant groups variant) variants in
-      let one = with_cost groups variant in
-      let all = sum_by-cons (sum_by cost) variant variants in
-      omega (arith, rest, one, all)
-
-  pub groups_cost : (variants : List (List WordTerms)) → sum_by group_sum (by_length variants) ≡ sum_by (sum_by cost) variants
-  groups_cost variants = let all = fold_cost [] variants in omega (arith, all)
