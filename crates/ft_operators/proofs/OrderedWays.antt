@@ -2,7 +2,7 @@
 use Rattle.std.proofs.Common.{◌≡◌, refl, ap, sym, subst, ◌∙◌, ℕ, ◌+◌, List, [], ◌∷◌, ◌++◌, length, Bool, true, false, true≢false, ◌&&◌, ◌||◌, cond, filter, flat_map, map, arith}
 use Rattle.std.specs.Prelude.{◌==◌, nat_lt, Option, Some, None}
 use Rattle.std.specs.List.{list_all, list_any, AllByRecursion}
-use Rattle.std.proofs.lemmas.Bool.{and_from, and_parts, or_parts}
+use Rattle.std.proofs.lemmas.Bool.{and_from, and_parts, or_left, or_parts}
 use Rattle.std.proofs.lemmas.Bool.Decides.{nat_tests}
 use Rattle.std.proofs.lemmas.List.{length-append}
 use Rattle.std.proofs.lemmas.List.Folds.{list_all-append}
@@ -50,16 +50,12 @@ hits-kept keep last (hit ∷ rest) h =
     by true first more skipped = and_from (is_after last hit) (rise_after (Some hit) (filter keep rest)) first more
     by false first more skipped = skipped
 
-or-first : (e r : Bool) → e ≡ true → (e || r) ≡ true
-or-first true r h = refl
-or-first false r h = absurd (true≢false (sym h))
-
 one-hits : (hit : Hit) (found : List Hit) → rise_after (Some hit) found ≡ true → list_all (is_before (one_hit hit)) (map one_hit found) ≡ true
 one-hits hit [] h = refl
 one-hits hit (next ∷ rest) h =
     let parts = and_parts (is_earlier hit next) (rise_after (Some next) rest) h in
     and_from (is_before (one_hit hit) (one_hit next)) (list_all (is_before (one_hit hit)) (map one_hit rest))
-    (or-first (is_earlier hit next) (has_same_places hit next && false) parts.0) (one-hits hit rest (after-too hit next rest parts.0 parts.1))
+    (or_left (is_earlier hit next) (has_same_places hit next && false) parts.0) (one-hits hit rest (after-too hit next rest parts.0 parts.1))
 
 hits-rise : (last : Option Hit) (found : List Hit) → rise_after last found ≡ true → rise (map one_hit found) ≡ true
 hits-rise last [] h = refl
