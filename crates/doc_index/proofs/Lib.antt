@@ -5,8 +5,10 @@ pub mod GroupLemmas
 pub mod LeafLemmas
 pub mod PlaceLemmas
 pub mod PutLemmas
+pub mod RangeLemmas
 pub mod RunLemmas
 pub mod SoundLemmas
 pub mod StepLemmas
 pub mod TermLemmas
 pub mod WideningLemmas
+pub mod RowCounts

@@ -132,6 +132,28 @@ module _ (document : TermDocument) (at : ℕ) (old : List Entry) (ids : List ℕ
     (state : IsTaking document at old ids k next rows starts) (there : k < length ids) (first end : ℕ)
     (first_is : first ≡ length (joined (map (all_rows (entries_of document)) (take k ids))) - next)
     (end_is : end ≡ length (joined (map (all_rows (entries_of document)) (take k ids))) + length (rows_of (get_or ids k 0) (entries_of document)) - next) where
+  -- the rows of the next term, of which those of the leaf stand after those of leaves before it
+  pub taking-around : is_ascending ids ≡ true → at < length document.leaves → are_distinct (leaf_ids document.leaves) ≡ true →
+      (same : (t : ℕ) → of_term t old ≡ of_term t (entries_at document at)) →
+      (seen : TermDocument) → seen ≡ document → (term : ℕ) → term ≡ get_or ids k 0 →
+      IsAround (leaf_ids seen.leaves) at first end rows (joined (map (all_rows (entries_without document at)) (take k ids)))
+      (rows_of (get_or ids k 0) (prefix_entries document at))
+      (map row_of (group term (drop next old)) ++ rows_of (get_or ids k 0) (rest_entries document at old same))
+      (joined (map (all_rows (entries_of document)) (drop (k + 1) ids)))
+  taking-around up place apart same seen seen_is term term_is =
+      let t = get_or ids k 0 in
+      let all = all_rows (entries_of document) in
+      let before = joined (map (all_rows (entries_without document at)) (take k ids)) in
+      let suffix = joined (map all (drop (k + 1) ids)) in
+      let prefix = rows_of t (prefix_entries document at) in
+      let back = rows_of t (rest_entries document at old same) in
+      let is_first : first ≡ length before = omega (arith, first_is, state.lengths) in
+      let is_end : end ≡ length before + length (all t) = omega (arith, end_is, state.lengths) in
+      let around = take-run document at old same ids k there rows state.rows_are first end (omega (arith, place)) apart is_first is_end in
+      let groups : group term (drop next old) ≡ of_term t old = ap (λ u. group u (drop next old)) term_is ∙ group-is ids k next old there up state.left in
+      let seen_around = subst (λ (d : TermDocument). IsAround (leaf_ids d.leaves) at first end rows before prefix (rows_of t old ++ back) suffix) (sym seen_is) around in
+      subst (λ (es : List Entry). IsAround (leaf_ids seen.leaves) at first end rows before prefix (map row_of es ++ back) suffix) (sym groups) seen_around
+
   pub taking-more : is_ascending ids ≡ true → at < length document.leaves → are_distinct (leaf_ids document.leaves) ≡ true →
       ((t : ℕ) → of_term t old ≡ of_term t (entries_at document at)) →
       (seen : TermDocument) → seen ≡ document → (term : ℕ) → term ≡ get_or ids k 0 → (rows_new : List Row) (next_new : ℕ) →
@@ -148,10 +170,6 @@ module _ (document : TermDocument) (at : ℕ) (old : List Entry) (ids : List ℕ
       let prefix = rows_of t (prefix_entries document at) in
       let back = rows_of t (rest_entries document at old same) in
       let is_first : first ≡ length before = omega (arith, first_is, state.lengths) in
-      let is_end : end ≡ length before + length (all t) = omega (arith, end_is, state.lengths) in
-      let around = take-run document at old same ids k there rows state.rows_are first end (omega (arith, place)) apart is_first is_end in
-      let groups : group term (drop next old) ≡ of_term t old = ap (λ u. group u (drop next old)) term_is ∙ group-is ids k next old there up state.left in
-      let seen_around = subst (λ (d : TermDocument). IsAround (leaf_ids d.leaves) at first end rows before prefix (rows_of t old ++ back) suffix) (sym seen_is) around in
       let sum : length (all t) ≡ length (rest t) + length (of_term t old) =
       omega (
         arith,
@@ -164,4 +182,4 @@ module _ (document : TermDocument) (at : ℕ) (old : List Entry) (ids : List ℕ
       ) in
       half-more state there up term first next_new rows_new term_is is_first next_is sum
       (take-done document at old same ids k there rows state.rows_are rows_new
-      (call before prefix back suffix (subst (λ (es : List Entry). IsAround (leaf_ids seen.leaves) at first end rows before prefix (map row_of es ++ back) suffix) (sym groups) seen_around)))
+      (call before prefix back suffix (taking-around up place apart same seen seen_is term term_is)))

@@ -1,4 +1,4 @@
-ghost use Rattle.std.specs.Prelude.{◌≡◌, ◌≤◌, ◌<◌, ◌+◌, ◌^◌, [], false, true, length, slice_index, slice_index_or, IfNone, IfOk, IfSome, IsTrue, OnOk};
+ghost use Rattle.std.specs.Prelude.{◌≡◌, ◌≤◌, ◌<◌, ◌+◌, ◌^◌, ◌++◌, [], false, true, length, slice_index, slice_index_or, slice_range, IfNone, IfOk, IfSome, IsTrue, OnOk};
 ghost use Rattle.ft_base.specs.Places.{is_ascending};
 ghost use Rattle.doc_index.specs.Rows.{IsRunOf, IsSound};
 ghost use Rattle.doc_index.specs.Terms.{are_distinct, document_of, has, leaf_ids, leaf_of, leaf_words, places_of, terms_of, with_leaf, without_leaf, words_of};
@@ -6,6 +6,7 @@ ghost use Rattle.doc_index.specs.Terms.{are_distinct, document_of, has, leaf_ids
 use crate::changes::{put_entries, take_entries};
 use crate::entry::{entries_of_leaf, entries_of_leaves, sorted};
 use crate::groups::{Run, run_at};
+use crate::leaf_terms::push_terms;
 use crate::leaves::Leaves;
 use crate::parts::Parts;
 use crate::terms::{find_term, narrow};
@@ -133,6 +134,14 @@ impl DocIndex {
         Ok((DocIndex { parts }, terms))
     }
 
+    /// Takes all leaves out: the index goes with its rows. Counts a row for each word.
+    pub fn clear<L: Ledger>(self, rows: &mut Steps<L>)
+        ensures { rows.new ≡ rows.old + length (words_of self.leaves) }
+    {
+        let parts = self.parts;
+        parts.rows.clear(rows);
+    }
+
     /// The number of the document.
     pub fn doc(&self) -> DocId
         ensures { result.0 ≡ self.now.doc }
@@ -171,6 +180,14 @@ impl DocIndex {
         ensures few { result < 2 ^ 32 }
     {
         self.parts.leaves.words()
+    }
+
+    /// Puts the terms of the words from one number up to another, counted from 0, after the others, in order. The leaf of the first
+    /// of them is found by halves. Where memory runs out, the first ones of them may be there.
+    pub fn push_terms(&self, from: usize, to: usize, terms: &mut Vec<u32>) -> Result<(), Memory>
+        ensures { OnOk result (terms.new.items ≡ terms.old.items ++ slice_range (words_of self.now.leaves) from to) }
+    {
+        push_terms(&self.parts.leaves, from, to, terms)
     }
 
     /// How many terms the document has.

@@ -43,7 +43,7 @@ pub(crate) fn entries_of_leaves(alloc: Global, leaves: &Vec<TermLeaf>) -> Result
     Ok(made)
 }
 
-/// Puts the words of a leaf with their rows after the others.
+/// Puts the words of a leaf with their rows after the others. Where a leaf has more than places of 32 bits count, no memory is found.
 fn add_entries(made: &mut Vec<Entry>, leaf: &TermLeaf) -> Result<(), Memory>
     ensures { OnOk result (made.new.items ≡ made.old.items ++ leaf_entries leaf.now) }
 {

@@ -101,23 +101,15 @@ fn put_group<L: Ledger>(
     let mut at = place;
     while is_next(entries, end, term) {
         rows.put_row(entries[end].row, at, steps)?;
+        let _rows = rows.len();
         end += 1;
-        at = next_place(at)?;
+        at += 1;
     }
     Ok(end)
 }
 
-/// The next place.
-fn next_place(at: usize) -> Result<usize, Memory>
-    ensures { IfOk result (λ next. next ≡ at + 1) }
-{
-    match at.checked_add(1) {
-        Some(next) => Ok(next),
-        None => Err(Memory),
-    }
-}
-
-/// Takes out as many rows as the next entries are of the term, each at the place. Answers which entry comes next.
+/// Takes out as many rows as the next entries are of the term, each at the place, from which on there are that many. Answers which
+/// entry comes next.
 fn take_group<L: Ledger>(
     rows: &mut PostingList,
     entries: &Vec<Entry>,
@@ -126,6 +118,7 @@ fn take_group<L: Ledger>(
     place: usize,
     steps: &mut Steps<L>,
 ) -> Result<usize, Memory>
+    requires { place + length (group term (drop next entries.now.items)) ≤ length rows.old }
     ensures next { IfOk result (λ end. end ≡ next + length (group term (drop next entries.now.items))) }
     ensures rows { OnOk result (rows.new ≡ without_rows rows.old place (length (group term (drop next entries.now.items)))) }
     ensures counted { OnOk result (steps.new ≡ steps.old + length (group term (drop next entries.now.items))) }
@@ -133,10 +126,6 @@ fn take_group<L: Ledger>(
 {
     let mut end = next;
     while is_next(entries, end, term) {
-        // There is a row for each entry.
-        if place >= rows.len() {
-            return Err(Memory);
-        }
         rows.take_row(place, steps)?;
         end += 1;
     }
@@ -168,8 +157,8 @@ pub(crate) fn put_term<L: Ledger>(
     put_group(rows, entries, next, run.term, place, steps)
 }
 
-/// Takes the rows of the next entries, as many as are of the term, out of its run, after the rows of leaves before
-/// of that place. Answers which entry comes next.
+/// Takes the rows of the next entries, as many as are of the term, out of its run, in which they stand after the rows of leaves before
+/// that place. Answers which entry comes next.
 pub(crate) fn take_term<L: Ledger>(
     leaves: &Leaves,
     rows: &mut PostingList,
@@ -179,6 +168,9 @@ pub(crate) fn take_term<L: Ledger>(
     next: usize,
     steps: &mut Steps<L>,
 ) -> Result<usize, Memory>
+    requires { (before : List Row) × ((prefix : List Row) × ((back : List Row) × ((suffix : List Row)
+        × IsAround (leaf_ids leaves.now.leaves) at run.first run.end rows.old before prefix
+        (map row_of (group run.term (drop next entries.now.items)) ++ back) suffix))) }
     ensures next { IfOk result (λ end. end ≡ next + length (group run.term (drop next entries.now.items))) }
     ensures rows { OnOk result ((before prefix back suffix : List Row) →
         IsAround (leaf_ids leaves.now.leaves) at run.first run.end rows.old before prefix

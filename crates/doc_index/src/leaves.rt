@@ -156,7 +156,7 @@ impl Leaves {
     }
 
     /// How many words stand before that place.
-    fn words_before(&self, at: usize) -> usize
+    pub(crate) fn words_before(&self, at: usize) -> usize
         requires { at ≤ length self.now.leaves }
         ensures { result ≡ length (words_of (take at self.now.leaves)) }
     {
@@ -181,12 +181,10 @@ impl Leaves {
         let mut slots = self.slots;
         let mut befores = self.befores;
         open_gap(&mut slots, &mut befores, at, leaves.len(), count)?;
-        let Some(slot) = at.checked_add(1) else {
-            return Err(Memory);
-        };
-        put_number(&mut slots, number, slot)?;
-        put_number(&mut befores, number, before)?;
         leaves.insert(at, leaf)?;
+        let _leaves = leaves.len();
+        put_number(&mut slots, number, at + 1)?;
+        put_number(&mut befores, number, before)?;
         Ok(Leaves {
             doc,
             leaves,
@@ -219,22 +217,13 @@ impl Leaves {
     }
 }
 
-/// How many words there are with so many more, where that isn't too many.
+/// How many words there are with so many more. Where these are more than a document has at most, no memory is found.
 fn words_with(words: usize, more: usize) -> Result<usize, Memory>
+    requires { words < 2 ^ 32 }
     ensures { IfOk result (λ sum. (sum ≡ words + more) × (sum < 2 ^ 32)) }
 {
-    match words.checked_add(more) {
-        Some(sum) => few(sum),
-        None => Err(Memory),
-    }
-}
-
-/// The number, where it isn't too great.
-fn few(words: usize) -> Result<usize, Memory>
-    ensures { IfOk result (λ same. (same ≡ words) × (words < 2 ^ 32)) }
-{
-    if words > MAX_WORDS {
+    if more > MAX_WORDS - words {
         return Err(Memory);
     }
-    Ok(words)
+    Ok(words + more)
 }

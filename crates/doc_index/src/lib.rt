@@ -3,7 +3,7 @@
 //!
 //! `term_leaf` is one leaf, `doc_index` the index, `term_places` the places of one term. Inside, `parts` is what an index
 //! is made of: `leaves` with `slots`, where each leaf is found by its number, and `terms` with the rows of each. `entry` makes
-//! words into rows, and `numbers` keeps numbers in 32 bits; `changes`, `put_rows`, `take_rows` and `groups` put the
+//! words into rows, `leaf_terms` tells the terms of words one after the other, and `numbers` keeps numbers in 32 bits; `changes`, `put_rows`, `take_rows` and `groups` put the
 //! rows of a leaf in, or take them out.
 #![tactic(auto)]
 
@@ -12,6 +12,7 @@ mod doc_index;
 mod entry;
 pub mod examples;
 mod groups;
+mod leaf_terms;
 mod leaves;
 mod numbers;
 mod parts;

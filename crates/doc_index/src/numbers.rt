@@ -1,4 +1,5 @@
-//! Numbers that are kept in 32 bits.
+//! Numbers that are kept in 32 bits. One that doesn't fit finds no memory, however much there is: a document of an index has no more
+//! words, rows and leaves than such numbers count.
 ghost use Rattle.std.specs.Prelude.{◌≡◌, ◌∷◌, ◌++◌, [], IfOk, OnOk};
 
 use ft_base::Memory;

@@ -1,4 +1,4 @@
-ghost use Rattle.std.specs.Prelude.{◌≡◌, ◌≤◌, ◌+◌, true, length, IfOk, OnOk};
+ghost use Rattle.std.specs.Prelude.{◌≡◌, ◌≤◌, ◌<◌, ◌+◌, ◌^◌, true, length, OnOk};
 ghost use Rattle.ft_base.specs.Places.{is_ascending};
 ghost use Rattle.doc_index.specs.Terms.{are_distinct, leaf_ids};
 ghost use Rattle.doc_index.specs.Rows.{IsIndexed, entries_of};
@@ -34,7 +34,8 @@ pub(crate) fn put_rows<L: Ledger>(
     let mut starts = Vec::with_capacity(*parts.ids.allocator(), parts.ids.len())?;
     let mut next = 0;
     for number in 0..parts.ids.len() {
-        let run = moved_back(run_at(parts, total, number), next)?;
+        let _rows = parts.rows.len();
+        let run = moved_back(run_at(parts, total, number), next);
         push_number(&mut starts, run.first)?;
         next = put_term(
             &parts.leaves,
@@ -51,16 +52,16 @@ pub(crate) fn put_rows<L: Ledger>(
 }
 
 /// The run after so many more rows.
-fn moved_back(run: Run, by: usize) -> Result<Run, Memory>
-    ensures term { IfOk result (λ moved. moved.term ≡ run.term) }
-    ensures first { IfOk result (λ moved. moved.first ≡ run.first + by) }
-    ensures end { IfOk result (λ moved. moved.end ≡ run.end + by) }
+fn moved_back(run: Run, by: usize) -> Run
+    requires first { run.first + by < 2 ^ 64 }
+    requires end { run.end + by < 2 ^ 64 }
+    ensures term { result.term ≡ run.term }
+    ensures first { result.first ≡ run.first + by }
+    ensures end { result.end ≡ run.end + by }
 {
-    let Some(first) = run.first.checked_add(by) else {
-        return Err(Memory);
-    };
-    match run.end.checked_add(by) {
-        Some(end) => Ok(Run { first, end, ..run }),
-        None => Err(Memory),
+    Run {
+        first: run.first + by,
+        end: run.end + by,
+        ..run
     }
 }

@@ -1,4 +1,4 @@
-ghost use Rattle.std.specs.Prelude.{◌≡◌, ◌+◌, ◌-◌, ◌<◌, ◌≤◌, cond, nat_lt, length, slice_index, IfOk, OnOk};
+ghost use Rattle.std.specs.Prelude.{◌≡◌, ◌+◌, ◌-◌, ◌^◌, ◌<◌, ◌≤◌, cond, nat_lt, length, slice_index, IfOk, OnOk};
 ghost use Rattle.doc_index.specs.steps.Directory.{IsChanged, IsClosed, IsOpened};
 
 use crate::numbers::in_32_bits;
@@ -16,6 +16,7 @@ pub(crate) fn number_at(numbers: &Vec<u32>, at: usize) -> usize
 
 /// Sees to it that the place is one of the vector's, by zeros after the last number.
 fn cover(numbers: &mut Vec<u32>, at: usize) -> Result<(), Memory>
+    requires { at < 2 ^ 32 }
     ensures there { OnOk result (at < length numbers.new.items) }
     ensures same { OnOk result ((k : _) → slice_index numbers.new.items k ≡ slice_index numbers.old.items k) }
     ensures length { OnOk result (length numbers.new.items ≡ cond (nat_lt at (length numbers.old.items)) (length numbers.old.items) (at + 1)) }
@@ -23,24 +24,19 @@ fn cover(numbers: &mut Vec<u32>, at: usize) -> Result<(), Memory>
     if at < numbers.len() {
         return Ok(());
     }
-    let Some(len) = at.checked_add(1) else {
-        return Err(Memory);
-    };
-    numbers.resize(len, 0)?;
+    numbers.resize(at + 1, 0)?;
     Ok(())
 }
 
-/// The number, raised where it is to be.
+/// The number, raised where it is to be. A number that exceeds 32 bits then finds no memory.
 fn shifted(number: u32, moves: bool, by: usize) -> Result<u32, Memory>
+    requires { by < 2 ^ 32 }
     ensures { IfOk result (λ sum. sum ≡ cond moves (number + by) number) }
 {
     if !moves {
         return Ok(number);
     }
-    match (number as usize).checked_add(by) {
-        Some(sum) => in_32_bits(sum),
-        None => Err(Memory),
-    }
+    in_32_bits(number as usize + by)
 }
 
 /// The number, lowered where it is to be.
@@ -55,7 +51,8 @@ fn lowered(number: u32, moves: bool, by: usize) -> u32
 
 /// Raises the numbers whose slots are after the place.
 fn raise_after(numbers: &mut Vec<u32>, slots: &Vec<u32>, at: usize, by: usize) -> Result<(), Memory>
-    requires { length numbers.old.items ≡ length slots.now.items }
+    requires lengths { length numbers.old.items ≡ length slots.now.items }
+    requires few { by < 2 ^ 32 }
     ensures length { OnOk result (length numbers.new.items ≡ length slots.now.items) }
     ensures moved { OnOk result ((k : _) → k < length slots.now.items →
         slice_index numbers.new.items k
@@ -113,6 +110,7 @@ pub(crate) fn open_gap(
 ) -> Result<(), Memory>
     requires lengths { length befores.old.items ≡ length slots.old.items }
     requires within { (k : _) → slice_index slots.old.items k ≤ count }
+    requires few { by < 2 ^ 32 }
     ensures { OnOk result (IsOpened at by slots.old.items befores.old.items slots.new.items befores.new.items) }
 {
     // After the last leaf nothing moves.
@@ -144,6 +142,7 @@ pub(crate) fn close_gap(
 
 /// Puts a number at that place, by zeros after the last one where it is after that.
 pub(crate) fn put_number(numbers: &mut Vec<u32>, at: usize, number: usize) -> Result<(), Memory>
+    requires { at < 2 ^ 32 }
     ensures changed { OnOk result (IsChanged at number numbers.old.items numbers.new.items) }
     ensures length { OnOk result (length numbers.new.items ≡ cond (nat_lt at (length numbers.old.items)) (length numbers.old.items) (at + 1)) }
 {

@@ -108,7 +108,7 @@ fn raise_all(counts: &mut Counts, index: &DocIndex) -> Result<(), Memory>
     Ok(())
 }
 
-/// Raises the count of the term by one.
+/// Raises the count of the term by one. A count of more than 32 bits finds no memory.
 fn raise(counts: &mut Counts, term: u32) -> Result<(), Memory>
     ensures { OnOk result ((other : ℕ) → count_of counts.new other ≡ count_of counts.old other + cond (term == other) 1 0) }
 {

@@ -109,6 +109,15 @@ impl PostingList {
         self.rows.remove(at)
     }
 
+    /// Lets the list go. Counts one for each of its rows, which other copies keep.
+    pub fn clear<L: Ledger>(self, rows: &mut Steps<L>)
+        ensures { rows.new ≡ rows.old + length self }
+    {
+        for _ in 0..self.len() {
+            rows.tick();
+        }
+    }
+
     /// A cursor at the first row.
     pub fn cursor(&self) -> RowCursor<'_>
         ensures { result ≡ at_place self.now 0 }

@@ -171,16 +171,15 @@ impl<T: Share> Blocks<T> {
 
     /// Makes two blocks of that block, with half of its items each.
     pub fn split(&mut self, number: usize) -> Result<(), Memory>
-        requires { number < length self.old }
+        requires block { number < length self.old }
+        requires room { length (joined self.old) < 2 ^ 64 }
         ensures same { joined self.new ≡ joined self.old }
         ensures some { 0 < length self.new }
         ensures more { OnOk result (length self.new ≡ length self.old + 1) }
     {
         let half = self.blocks[number].len() / 2;
         let (prefix, back) = self.blocks[number].halves(half)?;
-        let Some(middle) = self.start(number).checked_add(half) else {
-            return Err(Memory);
-        };
+        let middle = self.start(number) + half;
         self.starts.insert(number + 1, middle)?;
         match self.blocks.insert(number + 1, back) {
             Ok(()) => {

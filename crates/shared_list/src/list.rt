@@ -93,7 +93,8 @@ impl<T: Drop, const BLOCK: usize> SharedList<T, BLOCK> {
 }
 
 impl<T: Share, const BLOCK: usize> SharedList<T, BLOCK> {
-    /// Puts the item after the last one. Where memory runs out, the list stays as it was and the item is dropped.
+    /// Puts the item after the last one. Where memory runs out, or places, which are of 64 bits, the list stays as it was
+    /// and the item is dropped.
     pub fn push(&mut self, item: T) -> Result<(), Memory>
         ensures ok { OnOk result (self.new ≡ self.old ++ item ∷ []) }
         ensures err { OnErr result (self.new ≡ self.old) }
@@ -101,8 +102,8 @@ impl<T: Share, const BLOCK: usize> SharedList<T, BLOCK> {
         self.insert(self.len, item)
     }
 
-    /// Puts the item at that place, counted from 0, before the one that is there. Where memory runs out, the
-    /// list stays as it was and the item is dropped.
+    /// Puts the item at that place, counted from 0, before the one that is there. Where memory runs out, or places, which
+    /// are of 64 bits, the list stays as it was and the item is dropped.
     pub fn insert(&mut self, at: usize, item: T) -> Result<(), Memory>
         requires { at ≤ length self.old }
         ensures ok { OnOk result (self.new ≡ insert self.old at item) }

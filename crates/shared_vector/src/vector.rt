@@ -94,7 +94,8 @@ impl<T: Share> SharedVector<T> {
         Ok(vector)
     }
 
-    /// Puts the item after the last one. Where memory runs out, the vector stays as it was and the item is dropped.
+    /// Puts the item after the last one. Where memory runs out, or places, which are of 64 bits, the vector stays as it was
+    /// and the item is dropped.
     pub fn push(&mut self, item: T) -> Result<(), Memory>
         ensures ok { OnOk result (self.new ≡ self.old ++ item ∷ []) }
         ensures err { OnErr result (self.new ≡ self.old) }

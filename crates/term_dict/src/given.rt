@@ -1,5 +1,5 @@
 //! The entries that ever came into a dictionary, each at its id.
-ghost use Rattle.std.specs.Prelude.{◌≡◌, ◌<◌, ◌++◌, ◌∷◌, [], length, slice_index_or, IfOk};
+ghost use Rattle.std.specs.Prelude.{◌≡◌, ◌<◌, ◌+◌, ◌^◌, ◌++◌, ◌∷◌, [], length, slice_index_or, IfOk};
 ghost use Rattle.index_meaning.specs.Entries.{entry};
 ghost use Rattle.shared_list.specs.Blocks.{joined};
 ghost use Rattle.term_dict.specs.Given.{IsFilled, block_size};
@@ -73,11 +73,10 @@ impl Given {
 
     /// The list with one entry more, after the last one.
     pub fn pushed(self, key: &str, word: &str) -> Result<Given, Memory>
+        requires { length self + 1 < 2 ^ 64 }
         ensures { IfOk result (λ list. list ≡ self ++ entry key.now word.now ∷ []) }
     {
-        let Some(len) = self.len.checked_add(1) else {
-            return Err(Memory);
-        };
+        let len = self.len + 1;
         let blocks = with_entry(self.blocks, key, word)?;
         Ok(Given { blocks, len })
     }

@@ -151,7 +151,7 @@ impl Terms {
     }
 }
 
-/// The id that the next new term gets, where there is one left.
+/// The id that the next new term gets. Where there is none left, since ids are of 32 bits, no memory is found.
 fn next_id(given: &Given) -> Result<u32, Memory>
     ensures { IfOk result (λ id. (id ≡ length given.now) × (id + 1 < 2 ^ 32)) }
 {

@@ -4,7 +4,7 @@ use Rattle.shared_list.specs.Blocks.{starts_from}
 use Rattle.doc_index.specs.Rows.{entries_of, runs_of}
 use Rattle.doc_index.specs.steps.Groups.{group}
 use Rattle.doc_index.proofs.PutLemmas.{group-within}
-use Rattle.doc_index.proofs.StepLemmas.{IsTaking, run-first, run-end, half-start, half-all, half-rows, half-starts, taking-more}
+use Rattle.doc_index.proofs.StepLemmas.{IsTaking, run-first, run-end, half-start, half-all, half-rows, half-starts, taking-around, taking-more}
 use Rattle.doc_index.proofs.take_rows.take_rows.Goals as goal
 
 pub loop-number-init : goal.loop-number-init
@@ -18,6 +18,35 @@ loop-number-init g c =
           (half-start parts.rows c.requires.indexed.rows_are c.requires.grouped);
       counted = omega arith;
     }
+
+pub take_term-requires : goal.take_term-requires
+take_term-requires g c =
+    let parts = c.args.parts.now in
+    let ids = parts.ids.items in
+    let all = entries_of parts.leaves in
+    let k = c.loop-number.number in
+    let old = c.loop-number.invariant in
+    let there : k < length ids = omega (arith, c.loop-number-test.true, c.len-number-end.ensures, parts.ids.ok.0) in
+    let term = c.moved_prefix-run.ensures.term ∙ c.run_at.ensures.term ∙ ap (λ xs. get_or xs k 0) old.ids in
+    let run = c.moved_prefix-run.result in
+    let starts_are : c.loop-number.parts.starts.items ≡ starts_from 0 (runs_of all ids) = old.old_starts ∙ c.requires.indexed.starts_are in
+    let total_is = c.len-total.ensures ∙ ap length c.requires.indexed.rows_are in
+    let first_is = run-first all ids k c.run_at.result.first (c.run_at.ensures.first (runs_of all ids) starts_are total_is) in
+    let end_is = run-end all ids k c.run_at.result.end there (c.run_at.ensures.end (runs_of all ids) starts_are total_is) in (
+      _,
+      (
+        _,
+        (
+          _,
+          (
+            _,
+            taking-around parts.leaves c.args.at c.args.entries.now.items ids k c.loop-number.next c.loop-number.parts.rows c.loop-number.starts.items old.state there
+                run.first run.end (c.moved_prefix-run.ensures.first ∙ ap (λ n. n - c.loop-number.next) first_is) (c.moved_prefix-run.ensures.end ∙ ap (λ n. n - c.loop-number.next) end_is)
+                c.requires.rising c.requires.place c.requires.distinct c.requires.same c.loop-number.parts.leaves old.leaves run.term term,
+          ),
+        ),
+      ),
+    )
 
 pub returns-in_err-next-clause-at_most : goal.returns-in_err-next-clause-at_most
 returns-in_err-next-clause-at_most g c =

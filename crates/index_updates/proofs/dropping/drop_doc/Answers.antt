@@ -18,9 +18,9 @@ returns-in-Ok-clause-others g c = λ other apart.
 pub returns-in-Ok-clause-words : goal.returns-in-Ok-clause-words
 returns-in-Ok-clause-words g c = λ abbreviations root follows.
     let count = ap token_count (ap (document_at c.args.doc.0) c.in_ok-next.ensures ∙ follows.document) ∙ count-tree abbreviations root in
-    omega (arith, count, c.take_document.ensures.counted)
+    omega (arith, count, c.take_document.ensures.at_most)
 
 pub returns-in-Err-clause-words : goal.returns-in-Err-clause-words
 returns-in-Err-clause-words g c = λ abbreviations root follows.
     let count = ap token_count (ap (document_at c.args.doc.0) c.in_ok-next.ensures ∙ follows.document) ∙ count-tree abbreviations root in
-    omega (arith, count, c.take_document.ensures.counted)
+    omega (arith, count, c.take_document.ensures.at_most)
