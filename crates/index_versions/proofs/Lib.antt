@@ -8,5 +8,7 @@ pub mod LeafLemmas
 pub mod LikelyLemmas
 pub mod NamingLemmas
 pub mod PlacesLemmas
+pub mod SpanWordLemmas
 pub mod TermsLemmas
 pub mod UpdateLemmas
+pub mod KeyLemmas

@@ -103,8 +103,8 @@ impl Version {
         }
     }
 
-    /// Takes the document with all its leaves out. Counts a row for each of its words; where memory runs out too, and
-    /// then the version is to be given up.
+    /// Takes the document with all its leaves out. Counts a row for each of its words; where memory runs out, no more than
+    /// that, and the version is to be given up.
     pub fn take_document<L: Ledger>(
         &mut self,
         doc: DocId,
@@ -112,7 +112,8 @@ impl Version {
     ) -> Result<(), Memory>
         requires { has_document doc.0 self.old ≡ true }
         ensures ok { OnOk result (self.new ≡ without_document doc.0 self.old) }
-        ensures counted { rows.new ≡ rows.old + token_count (document_at doc.0 self.old) }
+        ensures counted { OnOk result (rows.new ≡ rows.old + token_count (document_at doc.0 self.old)) }
+        ensures at_most { rows.new ≤ rows.old + token_count (document_at doc.0 self.old) }
     {
         let alloc = self.alloc;
         let mut parts = mem::replace(&mut self.parts, Parts::empty(alloc));

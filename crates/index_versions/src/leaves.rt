@@ -64,24 +64,25 @@ fn index_with_leaf<L: Ledger>(
     ensures counted { OnOk result (rows.new ≡ rows.old + length ids.items) }
     ensures at_most { rows.new ≤ rows.old + length ids.items }
 {
-    let at = place_following(index, after)?;
+    let at = place_following(index, after);
     let copy = index.copy()?;
     let made = copy.put_leaf(at, leaf, ids, rows)?;
     Ok(made)
 }
 
 /// The place directly after a leaf that is there, or the one before all.
-fn place_following(index: &DocIndex, after: Option<LeafId>) -> Result<usize, Memory>
-    ensures place { IfOk result (λ at. at ≡ place_following after (by_id.leaf_ids index.now.leaves)) }
-    ensures within { IfOk result (λ at. at ≤ length index.now.leaves) }
+fn place_following(index: &DocIndex, after: Option<LeafId>) -> usize
+    requires { IfSome after (λ other. has other.0 (by_id.leaf_ids index.now.leaves) ≡ true) }
+    ensures place { result ≡ place_following after (by_id.leaf_ids index.now.leaves) }
+    ensures within { result ≤ length index.now.leaves }
 {
     let _leaves = index.leaf_count();
     match after {
         Some(leaf) => match index.find_leaf(leaf) {
-            Some(number) => Ok(number + 1),
-            None => Err(Memory),
+            Some(number) => number + 1,
+            None => unreachable!(),
         },
-        None => Ok(0),
+        None => 0,
     }
 }
 
@@ -127,7 +128,7 @@ fn index_without_leaf<L: Ledger>(
             let (rest, _ids) = copy.take_leaf(at, rows)?;
             Ok(rest)
         }
-        None => Err(Memory),
+        None => unreachable!(),
     }
 }
 
@@ -167,19 +168,19 @@ pub(crate) fn take_document<L: Ledger>(
     requires there { has_document doc.0 (meaning parts.old) ≡ true }
     ensures sound { OnOk result (IsSound parts.new) }
     ensures meaning { OnOk result (meaning parts.new ≡ without_document doc.0 (meaning parts.old)) }
-    ensures counted { rows.new ≡ rows.old + token_count (document_at doc.0 (meaning parts.old)) }
+    ensures counted { OnOk result (rows.new ≡ rows.old + token_count (document_at doc.0 (meaning parts.old))) }
+    ensures at_most { rows.new ≤ rows.old + token_count (document_at doc.0 (meaning parts.old)) }
 {
-    count_words(document(&parts.documents, doc).index(), rows);
-    change(alloc, parts, doc, None)?;
-    Ok(())
-}
-
-/// Counts a row for each word of the document.
-fn count_words<L: Ledger>(index: &DocIndex, rows: &mut Steps<L>)
-    ensures { rows.new ≡ rows.old + length (by_id.words_of index.now.leaves) }
-{
-    for _ in 0..index.token_count() {
-        rows.tick();
+    let index = document(&parts.documents, doc).index().copy()?;
+    match change(alloc, parts, doc, None) {
+        Ok(()) => {
+            index.clear(rows);
+            Ok(())
+        }
+        Err(memory) => {
+            drop(index);
+            Err(memory)
+        }
     }
 }
 

@@ -3,7 +3,8 @@
 //!
 //! `version` is the type with its terms, `reading` has the calls that read a document, `changing` those that change one.
 //! `term_source` and `term_sources` aim cursors at the hits of terms, which `term_cursor` has, and tell the first place of a span
-//! (`first_places`). `word_leaf` is a text that comes in. Inside, `parts` is what a version is made of, `held` one of its documents,
+//! (`first_places`). `span_words` tells the words of a span in order.
+//! `lent_words` lends them. `word_leaf` is a text that comes in. Inside, `parts` is what a version is made of, `held` one of its documents,
 //! `documents` finds one, and `terms` has the terms and their ids.
 //! `words` makes words into ids, `hints` says where to look for one first, `leaves` puts leaves in and takes them out, `exchange`
 //! puts a document in the place of another, and `changes` keeps the dictionary, the counts and the groups with it.
@@ -20,9 +21,12 @@ mod exchange;
 mod first_places;
 mod held;
 mod hints;
+pub mod laws;
 mod leaves;
+mod lent_words;
 mod parts;
 mod reading;
+mod span_words;
 mod term_cursor;
 mod term_source;
 mod term_sources;

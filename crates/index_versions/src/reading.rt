@@ -151,7 +151,7 @@ impl Version {
 }
 
 /// The document of that number, with what it means.
-fn held(parts: &Parts, doc: DocId) -> &HeldDocument
+pub(crate) fn held(parts: &Parts, doc: DocId) -> &HeldDocument
     requires sound { IsSound parts.now }
     requires there { has_document doc.0 (meaning parts.now) ≡ true }
     ensures held { result.now ≡ held_at doc.0 parts.now.documents }

@@ -27,7 +27,9 @@ impl<'v> Model for TermCursor<'v> {
 
 impl<'v> TermCursor<'v> {
     /// A cursor that wasn't aimed yet.
-    pub fn new() -> TermCursor<'v> {
+    pub fn new() -> TermCursor<'v>
+        ensures { result ≡ hit_place [] 0 }
+    {
         TermCursor { cursor: None }
     }
 

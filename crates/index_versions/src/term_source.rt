@@ -2,8 +2,10 @@ ghost use Rattle.std.specs.Prelude.{◌≡◌, ◌<◌, ◌+◌, [], cond, false
 ghost use Rattle.ft_base.specs.Hits.{hit_at, hit_place};
 ghost use Rattle.index_cursors.specs.SpanHits.{hits_in};
 ghost use Rattle.index_meaning.specs.Documents.{has_document};
+ghost use Rattle.index_meaning.specs.Index.{document_count};
 ghost use Rattle.index_versions.specs.Terms.{aimed_at, first_in};
-ghost use Rattle.index_versions.specs.Versions.{stands_in, terms_of};
+ghost use Rattle.index_versions.specs.Versions.{stands_in, term_at, terms_of};
+ghost use Rattle.text_forms.specs.Forms.{key_of};
 ghost use Rattle.index_versions.specs.steps.Found.{IsFound, IsKept};
 
 use crate::held::HeldDocument;
@@ -138,7 +140,9 @@ impl<'v> TermSource<'v> {
     }
 
     /// How many of the documents have the term.
-    pub fn document_count(&self) -> u32 {
+    pub fn document_count(&self) -> u32
+        ensures { result ≡ document_count key_of (term_at self.now.term self.now.version) self.now.version }
+    {
         let version = self.version;
         version.document_count(self.term)
     }

@@ -1,5 +1,6 @@
 ghost use Rattle.std.specs.Prelude.{◌≡◌, ◌+◌, ◌++◌, ◌∷◌, [], true, length, map, OnErr, OnOk};
 ghost use Rattle.std.specs.List.{All, list_any};
+ghost use Rattle.ft_base.specs.Lists.{is_empty};
 ghost use Rattle.index_meaning.specs.Documents.{has_document};
 ghost use Rattle.index_versions.specs.FirstPlaces.{soonest};
 ghost use Rattle.index_versions.specs.Terms.{aimed_at, first_in};
@@ -46,7 +47,9 @@ impl<'v> TermSources<'v> {
     }
 
     /// Whether there is none.
-    pub fn is_empty(&self) -> bool {
+    pub fn is_empty(&self) -> bool
+        ensures { result ≡ is_empty self.now }
+    {
         self.sources.is_empty()
     }
 

@@ -1,5 +1,5 @@
 -- The document is counted as it stands, and the others mean what they did.
-use Rattle.std.proofs.Common.{◌+◌, length, ap, sym, ◌∙◌}
+use Rattle.std.proofs.Common.{◌+◌, length, ap, sym, ◌∙◌, arith}
 use Rattle.doc_index.specs.Terms as by_id
 use Rattle.doc_index.specs.Terms.{TermDocument}
 use Rattle.index_versions.specs.steps.Held.{Held, documents_under}
@@ -13,22 +13,27 @@ document-requires-clause-there g c =
     let parts = c.args.parts.now in
     sym (has_under parts.dictionary.given c.args.doc.0 parts.documents) ∙ c.requires.there
 
-pub returns-in_err-change-clause-counted : goal.returns-in_err-change-clause-counted
-returns-in_err-change-clause-counted g c =
+pub returns-in-Ok-clause-meaning : goal.returns-in-Ok-clause-meaning
+returns-in-Ok-clause-meaning g c =
     let parts = c.args.parts.now in
-    c.count_words.ensures
-    ∙ ap (λ (d : TermDocument). c.args.rows.now + length (by_id.words_of d.leaves)) (c.index.ensures ∙ ap (λ (h : Held). h.index) c.document.ensures)
-    ∙ ap (λ n. c.args.rows.now + n) (sym (token_size parts.dictionary.given c.args.doc.0 parts.documents))
-
-pub returns-clause-meaning : goal.returns-clause-meaning
-returns-clause-meaning g c =
-    let parts = c.args.parts.now in
-    (λ i. documents_under (c.in_ok-change.ensures.given i) (c.in_ok-change.ensures.documents i))
+    (λ i. documents_under (c.in-Ok.ensures.given i) (c.in-Ok.ensures.documents i))
     ∙ without_under parts.dictionary.given c.args.doc.0 parts.documents c.requires.sound.ascending
 
-pub returns-clause-counted : goal.returns-clause-counted
-returns-clause-counted g c =
+pub returns-in-Ok-clause-counted : goal.returns-in-Ok-clause-counted
+returns-in-Ok-clause-counted g c =
     let parts = c.args.parts.now in
-    c.count_words.ensures
-    ∙ ap (λ (d : TermDocument). c.args.rows.now + length (by_id.words_of d.leaves)) (c.index.ensures ∙ ap (λ (h : Held). h.index) c.document.ensures)
+    c.clear.ensures
+    ∙ ap (λ (d : TermDocument). c.args.rows.now + length (by_id.words_of d.leaves))
+    (c.in_ok-index.ensures ∙ c.index.ensures ∙ ap (λ (h : Held). h.index) c.document.ensures)
     ∙ ap (λ n. c.args.rows.now + n) (sym (token_size parts.dictionary.given c.args.doc.0 parts.documents))
+
+pub returns-in-Ok-clause-at_most : goal.returns-in-Ok-clause-at_most
+returns-in-Ok-clause-at_most g c =
+    let parts = c.args.parts.now in
+    let index = c.in_ok-index.ensures ∙ c.index.ensures ∙ ap (λ (h : Held). h.index) c.document.ensures in
+    omega (
+      arith,
+      c.clear.ensures,
+      ap (λ (d : TermDocument). length (by_id.words_of d.leaves)) index,
+      token_size parts.dictionary.given c.args.doc.0 parts.documents,
+    )
