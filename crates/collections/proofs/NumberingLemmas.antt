@@ -10,7 +10,6 @@ use Rattle.ft_base.specs.Places.{is_ascending}
 use Rattle.index_meaning.specs.Documents.{Numbered, document_at, has_document, with_document, without_document}
 use Rattle.index_meaning.specs.Index.{index}
 use Rattle.index_updates.specs.Follows.{Follows, tree_document, under_tokens, under_tree}
-use Rattle.index_updates.proofs.IndexLemmas.{index-same}
 use Rattle.ordered_tree.specs.Counts.{word_count}
 use Rattle.ordered_tree.specs.Numbered as tree
 use Rattle.ordered_tree.specs.Numbered.{plain}
@@ -201,12 +200,15 @@ module _ (abbreviations : List (List ℕ)) where
   under-tokens [] = refl
   under-tokens ((name, first) ∷ rest) = ap (λ ds. under_tokens abbreviations (tree_of (name, first)) ∷ ds) (under-tokens rest)
 
-  pub is-index : (es : Entries) (version : List Numbered) (next : ℕ) → IsNumbered abbreviations es version next → IsIndexOf abbreviations (map to_document es) version
-  is-index es version next held = record {
+  -- by the law that an index has of trees what it has of their tokens
+  pub is-index : ((key : List ℕ → List ℕ) (abbreviations : List (List ℕ)) (trees : List (ℕ × tree.Numbered))
+      → index key (map (under_tree abbreviations) trees) ≡ index key (map (under_tokens abbreviations) trees))
+      → (es : Entries) (version : List Numbered) (next : ℕ) → IsNumbered abbreviations es version next → IsIndexOf abbreviations (map to_document es) version
+  is-index same es version next held = record {
     ids = numbers_of es;
     as_many = length-map es (λ e. e.1.doc.0) ∙ sym (length-map es to_document);
     ascending = numbers-ascend 0 es next held.ascend;
-    index = ap (index key_of) held.follows ∙ (index-same key_of abbreviations (trees_of es) ∙ sym (ap (index key_of) (under-tokens es)));
+    index = ap (index key_of) held.follows ∙ (same key_of abbreviations (trees_of es) ∙ sym (ap (index key_of) (under-tokens es)));
   }
 
   -- ---- the version follows each document

@@ -9,7 +9,7 @@ ghost use Rattle.ordered_tree.specs.Counts.{word_count};
 ghost use Rattle.ordered_tree.specs.Numbered.{plain};
 ghost use Rattle.plain_tree.specs.Document.{nodes};
 ghost use Rattle.plain_tree.specs.View.{node};
-ghost use Rattle.tree_edits.specs.steps.Acts.{stays};
+ghost use Rattle.tree_edits.specs.Acts.{stays};
 ghost use Rattle.collections.specs.Documents.{dropped, edited_within, has_name, key_total, loadable, loaded};
 ghost use Rattle.collections.specs.Documents.{token_total, tokens_loaded, tokens_named, touched_in};
 ghost use Rattle.collections.specs.Indexed.{nothing_indexed, FollowsEach, IsIndexOf};
@@ -29,6 +29,8 @@ use crate::rebreaking::rebreak_all;
 use crate::tokens::token_count;
 use ft_base::{DocId, Line, MAX_DOCUMENTS, Memory, Steps};
 use index_updates::drop_doc;
+use index_updates::laws::{tokens_law, words_law};
+use index_versions::laws::keys_law;
 use index_versions::{Version, WordHints};
 use ordered_tree::NodeRefs;
 use plain_tree::{How, Kids};
@@ -126,6 +128,7 @@ impl Collection {
         ensures indexed { IsIndexOf self.now.abbreviations self.now.documents self.now.version }
         ensures followed { FollowsEach self.now.abbreviations self.now.version self.now.trees }
     {
+        tokens_law();
         &self.documents
     }
 
@@ -183,6 +186,8 @@ impl Collection {
     pub fn key_total(&self) -> usize
         ensures { result ≡ key_total self.now.documents }
     {
+        keys_law();
+        words_law();
         self.version.key_count()
     }
 

@@ -11,7 +11,7 @@ ghost use Rattle.ordered_tree.specs.Numbered.{plain};
 ghost use Rattle.path_nodes.specs.References.{IsElement};
 ghost use Rattle.plain_tree.specs.Document.{nodes};
 ghost use Rattle.plain_tree.specs.View.{node};
-ghost use Rattle.tree_edits.specs.steps.Acts.{stays};
+ghost use Rattle.tree_edits.specs.Acts.{stays};
 ghost use Rattle.collections.specs.Loaded.{trees_of};
 ghost use Rattle.collections.specs.Targets.{edit_of, places_of_targets, AreTargets};
 ghost use Rattle.collections.specs.steps.Planning.{ArePlanned, IsDraftOf};

@@ -11,7 +11,7 @@ use Rattle.plain_tree.specs.Edits as plain_edit
 use Rattle.plain_tree.specs.declared.place.How.{How}
 use Rattle.tree_edits.specs.Edits.{is_among, only}
 use Rattle.tree_edits.specs.Fresh.{all_fresh}
-use Rattle.tree_edits.specs.steps.Acts.{act_on, root_stays, stays}
+use Rattle.tree_edits.specs.Acts.{act_on, root_stays, stays}
 use Rattle.tree_edits.proofs.FreshLemmas.{all_fresh-plain}
 use Rattle.document_edits.specs.Edited.{edited, edited_nodes, first_or}
 use Rattle.document_edits.specs.Targets.{places_of}

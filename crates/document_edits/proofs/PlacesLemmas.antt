@@ -19,8 +19,8 @@ use Rattle.plain_tree.specs.Document.{Node, element, Nodes}
 use Rattle.plain_tree.specs.Edits as plain_edit
 use Rattle.plain_tree.specs.declared.place.How.{How}
 use Rattle.tree_edits.specs.Edits.{changed, all_changed, is_among, is_same}
-use Rattle.tree_edits.specs.steps.Acts as by_reference
-use Rattle.tree_edits.specs.steps.Acts.{act_on}
+use Rattle.tree_edits.specs.Acts as by_reference
+use Rattle.tree_edits.specs.Acts.{act_on}
 use Rattle.tree_edits.proofs.PlainLemmas.{plain-append, plain-inserted, plain-joined}
 use Rattle.tree_edits.proofs.References.{same_ref, same_self}
 use Rattle.document_edits.specs.Edited.{act, all_changed_at, changed_at, edited_nodes, is_one_of}

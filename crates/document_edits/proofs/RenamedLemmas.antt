@@ -16,7 +16,7 @@ use Rattle.plain_tree.specs.declared.place.How.TheVariants as H
 use Rattle.tree_edits.specs.Changed.{Text, stays, text_leaf, touched, without, word_total}
 use Rattle.tree_edits.specs.Edits.{all_changed, append, changed, is_among, is_same, joined, only, references_in, references_of, text_then}
 use Rattle.tree_edits.specs.Fresh.{all_fresh, fresh}
-use Rattle.tree_edits.specs.steps.Acts.{act, act_on}
+use Rattle.tree_edits.specs.Acts.{act, act_on}
 use Rattle.tree_edits.proofs.EditLemmas.{turned}
 use Rattle.tree_edits.proofs.Gathered.{texts_part, texts-refs}
 use Rattle.tree_edits.proofs.References.{part_times, same_self, times, times-append, weight_yes}

@@ -16,7 +16,7 @@ use Rattle.plain_tree.specs.declared.place.How.{How}
 use Rattle.tree_edits.specs.Changed.{touched}
 use Rattle.tree_edits.specs.Edits.{only, references_in}
 use Rattle.tree_edits.specs.Fresh.{all_fresh, fresh}
-use Rattle.tree_edits.specs.steps.Acts.{act_on}
+use Rattle.tree_edits.specs.Acts.{act_on}
 use Rattle.tree_edits.proofs.EditLemmas.{references-are}
 use Rattle.tree_edits.proofs.References.{Distinct, distinct_from, times, times-append}
 use Rattle.document_edits.specs.Targets.{first_numbered, places_of, reference_at, reference_of, references_after, touched_by}

@@ -11,7 +11,7 @@ use Rattle.plain_tree.specs.Document.{Node, Nodes}
 use Rattle.plain_tree.specs.declared.place.How.{How}
 use Rattle.tree_edits.specs.Changed.{touched}
 use Rattle.tree_edits.specs.Fresh.{all_fresh}
-use Rattle.tree_edits.specs.steps.Acts.{act_on}
+use Rattle.tree_edits.specs.Acts.{act_on}
 
 -- the places of the elements that have these references
 abbrev pub places_of : Numbered → List NodeRef → List (List ℕ)

@@ -17,7 +17,7 @@ ghost use Rattle.plain_tree.specs.View as view;
 ghost use Rattle.text_forms.specs.Forms.{key_of};
 ghost use Rattle.tree_edits.specs.Changed.{KeepsOrder, touched};
 ghost use Rattle.tree_edits.specs.Drafted.{IsDrafted};
-ghost use Rattle.tree_edits.specs.steps.Acts.{act_on, stays};
+ghost use Rattle.tree_edits.specs.Acts.{act_on, stays};
 ghost use Rattle.document_edits.specs.Edited.{edited};
 ghost use Rattle.document_edits.specs.Targets.{places_of, touched_by};
 

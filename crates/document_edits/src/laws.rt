@@ -12,7 +12,7 @@ ghost use Rattle.plain_tree.specs.declared.place.How.{How};
 ghost use Rattle.tree_edits.specs.Changed.{touched};
 ghost use Rattle.tree_edits.specs.Edits.{is_same, only};
 ghost use Rattle.tree_edits.specs.Fresh.{all_fresh};
-ghost use Rattle.tree_edits.specs.steps.Acts.{act_on};
+ghost use Rattle.tree_edits.specs.Acts.{act_on};
 ghost use Rattle.document_edits.specs.Edited.{edited_nodes};
 ghost use Rattle.document_edits.specs.Targets.{places_of, touched_by};
 

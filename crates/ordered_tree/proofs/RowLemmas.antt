@@ -11,7 +11,7 @@ use Rattle.ordered_tree.specs.Stands.{round_root, round_first, round_next, stand
 use Rattle.ordered_tree.specs.declared.around.Around.{Around}
 use Rattle.ft_base.specs.declared.ids.NodeRef.{NodeRef}
 use Rattle.ordered_tree.specs.declared.slot.Held.{Held}
-use Rattle.ordered_tree.specs.declared.slot.Held.TheVariants.{Element, Text}
+use Rattle.ordered_tree.specs.declared.slot.Held.TheVariants.{Element, Text, Free}
 use Rattle.ordered_tree.specs.declared.slot.Slot.{Slot}
 use Rattle.ordered_tree.proofs.SlotsLemmas.{some_node, from_link-children, slot_of-stands, below-stands, first-child_stands, rest-child_stands}
 
@@ -136,6 +136,10 @@ pub plain-text : (n : Numbered) (bytes : List ℕ) → held n ≡ Text bytes →
 plain-text (element_at r name attrs kids) bytes h = cc
 plain-text (text_at r bytes') bytes h = cc
 
+none-free : (n : Numbered) → held n ≡ Free → ⊥
+none-free (element_at r name attrs kids) h = cc
+none-free (text_at r bytes) h = cc
+
 pub count-element : (n : Numbered) (name : List ℕ) (attrs : _) → held n ≡ Element name attrs → node_count (plain n) ≡ 1 + nodes_count (plain_children (children n))
 count-element n name attrs h = ap node_count (plain-element n name attrs h)
 
@@ -166,6 +170,9 @@ module _ (slots : List Slot) (link : Option NodeRef) (here : NodeRef) (left : Is
 module _ (slots : List Slot) (here : NodeRef) (one : IsRow slots (Some here)) (s : Slot) (read : s ≡ get_or slots here.0 s) where
   pub held-here : (h : Held) → s.held ≡ h → held (step slots here one).n ≡ h
   held-here h is = sym (ap (λ (d : Slot). d.held) read ∙ (step slots here one).held-is s) ∙ is
+
+  pub not-free : s.held ≡ Free → ⊥
+  not-free is = none-free (step slots here one).n (held-here Free is)
 
   first-here : s.first_child ≡ first_of (children (step slots here one).n)
   first-here = ap (λ (d : Slot). d.first_child) read ∙ (step slots here one).first-is s

@@ -1,10 +1,12 @@
 //! Where the sentences and the paragraphs of a document start, by what is known of its texts.
 
-ghost use Rattle.std.specs.Prelude.{◌≡◌, ◌<◌, ◌^◌, slice_index_or, Some, IfOk, OnOk};
+ghost use Rattle.std.specs.Prelude.{◌≡◌, ◌<◌, ◌+◌, ◌^◌, length, slice_index_or, Some, IfOk, OnOk};
 ghost use Rattle.plain_tree.specs.Document.{text};
+ghost use Rattle.text_words.specs.Words.{words};
 ghost use Rattle.tokenizer.specs.Parts.{parts};
 ghost use Rattle.tokenizer.specs.Tokens.{tokens, sentence_starts, paragraph_starts};
 ghost use Rattle.tokenizer.specs.steps.StartsLeft.{words_seen};
+ghost use Rattle.ordered_tree.specs.Counts.{word_count, word_counts};
 ghost use Rattle.ordered_tree.specs.Numbered.{plain, plain_children};
 ghost use Rattle.ordered_tree.specs.Slots.{IsRow, node_at, row};
 ghost use Rattle.ordered_tree.specs.steps.Gathering.{parts_of};
@@ -17,7 +19,7 @@ use crate::slots::{SlotAt, Slots};
 use crate::{DocTree, NodeRef};
 use ft_base::{Breaks, Memory};
 use std::alloc::Global;
-use tokenizer::Starts;
+use tokenizer::{Starts, TokenFault};
 use word_lists::KeySet;
 
 impl DocTree {
@@ -52,9 +54,9 @@ fn pass_node(
 ) -> Result<(), Memory>
     requires row { IsRow slots.now (Some here) }
     requires slot { slot_of slot ≡ slice_index_or slots.now here.0 (slot_of slot) }
-    requires few { words_seen starts.old < 2 ^ 31 }
+    requires few { words_seen starts.old + word_count (plain (node_at slots.now here)) < 2 ^ 31 }
     ensures passed { OnOk result (Passes starts.old (parts abbreviations.now (plain (node_at slots.now here))) starts.new) }
-    ensures few { words_seen starts.new < 2 ^ 31 }
+    ensures counted { OnOk result (words_seen starts.new ≡ words_seen starts.old + word_count (plain (node_at slots.now here))) }
 {
     match slot.held {
         Held::Text { text } => pass_text(alloc, text, abbreviations, starts),
@@ -64,8 +66,7 @@ fn pass_node(
             starts.pass_tag(name.as_str());
             Ok(())
         }
-        // No node's slot is free.
-        Held::Free => Err(Memory),
+        Held::Free => unreachable!(),
     }
 }
 
@@ -79,9 +80,9 @@ fn pass_nodes(
     starts: &mut Starts,
 ) -> Result<(), Memory>
     requires row { IsRow slots.now first }
-    requires few { words_seen starts.old < 2 ^ 31 }
+    requires few { words_seen starts.old + word_counts (plain_children (row slots.now first)) < 2 ^ 31 }
     ensures passed { OnOk result (Passes starts.old (parts_of abbreviations.now (plain_children (row slots.now first))) starts.new) }
-    ensures few { words_seen starts.new < 2 ^ 31 }
+    ensures counted { OnOk result (words_seen starts.new ≡ words_seen starts.old + word_counts (plain_children (row slots.now first))) }
 {
     let mut link = first;
     while let Some(here) = link {
@@ -99,9 +100,9 @@ fn pass_text(
     abbreviations: &KeySet,
     starts: &mut Starts,
 ) -> Result<(), Memory>
-    requires { words_seen starts.old < 2 ^ 31 }
+    requires { words_seen starts.old + length (words content.now) < 2 ^ 31 }
     ensures passed { OnOk result (Passes starts.old (parts abbreviations.now (text content.now)) starts.new) }
-    ensures few { words_seen starts.new < 2 ^ 31 }
+    ensures counted { OnOk result (words_seen starts.new ≡ words_seen starts.old + length (words content.now)) }
 {
     match starts.pass_known(
         alloc,
@@ -111,7 +112,7 @@ fn pass_text(
         2_147_483_647,
     ) {
         Ok(()) => Ok(()),
-        // No document has more words.
-        Err(_) => Err(Memory),
+        Err(TokenFault::Tokens) => unreachable!(),
+        Err(TokenFault::Memory) => Err(Memory),
     }
 }

@@ -33,8 +33,7 @@ pub(crate) fn add_leaves(
             Ok(Some(leaf))
         }
         Held::Element { .. } => add_all_leaves(alloc, slots, slot.first_child, last, leaves),
-        // No node's slot is free.
-        Held::Free => Err(Memory),
+        Held::Free => unreachable!(),
     }
 }
 

@@ -27,8 +27,7 @@ pub(crate) fn tree_of(alloc: Global, slots: &Slots, here: NodeRef) -> Result<Tre
             attrs: attrs.to_attrs(alloc)?,
             kids: kids_of(alloc, slots, slot.first_child)?,
         }),
-        // No node's slot is free.
-        Held::Free => Err(Memory),
+        Held::Free => unreachable!(),
     }
 }
 

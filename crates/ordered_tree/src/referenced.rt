@@ -91,8 +91,7 @@ fn referenced(
             attrs: attrs.share()?,
             kids: all_referenced(alloc, slots, slot.first_child, children_expected(&slot))?,
         }),
-        // No node's slot is free.
-        Held::Free => Err(Memory),
+        Held::Free => unreachable!(),
     }
 }
 

@@ -49,8 +49,7 @@ fn add_texts<'a>(
             Ok(())
         }
         Held::Element { .. } => add_all_texts(slots, slot.first_child, list),
-        // No node's slot is free.
-        Held::Free => Err(Memory),
+        Held::Free => unreachable!(),
     }
 }
 

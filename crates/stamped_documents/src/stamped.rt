@@ -6,7 +6,7 @@ ghost use Rattle.doc_profile.specs.Faults.{AreWithin};
 ghost use Rattle.ft_base.specs.Lists.{is_empty};
 ghost use Rattle.plain_tree.specs.Document.{nodes};
 ghost use Rattle.plain_tree.specs.View.{node};
-ghost use Rattle.tree_edits.specs.steps.Acts.{stays};
+ghost use Rattle.tree_edits.specs.Acts.{stays};
 ghost use Rattle.collections.specs.Documents.{dropped, edited_within, loadable, loaded, tokens_loaded, tokens_named, touched_in};
 ghost use Rattle.collections.specs.Targets.{edit_of, places_of_targets, AreTargets};
 ghost use Rattle.stamped_documents.specs.Stamped.{nothing_stamped};

@@ -21,7 +21,7 @@ use Rattle.tree_edits.specs.Changed.{KeepsOrder}
 use Rattle.tree_edits.specs.Edited.{IsEdited}
 use Rattle.tree_edits.specs.Edits.{only, append, all_changed, changed, inserted, insertion, is_among, is_same, joined, nothing, references_of, removal, replacement}
 use Rattle.tree_edits.specs.Fresh.{all_fresh}
-use Rattle.tree_edits.specs.steps.Acts.{act, act_on}
+use Rattle.tree_edits.specs.Acts.{act, act_on}
 use Rattle.tree_edits.proofs.ChangedLemmas.{same_choice}
 use Rattle.tree_edits.proofs.EditLemmas.{turned, insertion_order, removal_order, replacement_order}
 use Rattle.tree_edits.proofs.FreshLemmas.{all_fresh-refs}

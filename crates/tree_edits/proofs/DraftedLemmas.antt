@@ -18,7 +18,7 @@ use Rattle.plain_tree.specs.declared.tree.Tree.{Tree}
 use Rattle.tree_edits.specs.Changed.{KeepsOrder}
 use Rattle.tree_edits.specs.Edits.{changed, is_among, joined, only, references_in}
 use Rattle.tree_edits.specs.Fresh.{all_fresh}
-use Rattle.tree_edits.specs.steps.Acts.{act, act_on, root_stays}
+use Rattle.tree_edits.specs.Acts.{act, act_on, root_stays}
 use Rattle.tree_edits.specs.steps.Drafting.{IsDraftOf}
 use Rattle.tree_edits.specs.steps.Marks.{is_marked}
 use Rattle.tree_edits.proofs.ActLemmas.{kept_order}

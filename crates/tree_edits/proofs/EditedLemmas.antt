@@ -16,7 +16,7 @@ use Rattle.plain_tree.specs.declared.place.How.TheVariants as H
 use Rattle.plain_tree.proofs.JoiningLemmas.{document_made}
 use Rattle.tree_edits.specs.Edits.{only, append, joined, references_in, references_of, changed, all_changed, is_among}
 use Rattle.tree_edits.specs.Fresh.{all_fresh}
-use Rattle.tree_edits.specs.steps.Acts.{act, act_on, stays, root_stays}
+use Rattle.tree_edits.specs.Acts.{act, act_on, stays, root_stays}
 use Rattle.tree_edits.proofs.EditLemmas.{references-are}
 use Rattle.tree_edits.proofs.FreshLemmas.{all_fresh-refs}
 use Rattle.tree_edits.proofs.PlainLemmas.{plain-joined}

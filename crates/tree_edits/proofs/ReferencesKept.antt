@@ -10,7 +10,7 @@ use Rattle.plain_tree.specs.declared.place.How.{How}
 use Rattle.plain_tree.specs.declared.place.How.TheVariants as H
 use Rattle.std.proofs.Common.{sym, subst}
 use Rattle.tree_edits.specs.Edits.{only, append, text_then, joined, references_in, references_of, changed, all_changed, inserted}
-use Rattle.tree_edits.specs.steps.Acts.{act}
+use Rattle.tree_edits.specs.Acts.{act}
 
 module _ (P : NodeRef → Type 0) where
   pub all-append : (a b : Children) → All P (references_of a) → All P (references_of b) → All P (references_of (append a b))

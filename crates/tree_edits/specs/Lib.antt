@@ -6,4 +6,5 @@ pub mod Examples
 pub mod Fitting
 pub mod Fresh
 pub mod Kept
+pub mod Acts
 pub mod steps

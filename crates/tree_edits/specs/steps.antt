@@ -1,4 +1,3 @@
-pub mod Acts
 pub mod Drafting
 pub mod Editing
 pub mod Marks

@@ -9,7 +9,7 @@ ghost use Rattle.plain_tree.specs.Document.{nodes};
 ghost use Rattle.plain_tree.specs.View as view;
 ghost use Rattle.tree_edits.specs.Changed.{KeepsOrder};
 ghost use Rattle.tree_edits.specs.Drafted.{IsDrafted};
-ghost use Rattle.tree_edits.specs.steps.Acts.{act_on, root_stays};
+ghost use Rattle.tree_edits.specs.Acts.{act_on, root_stays};
 ghost use Rattle.tree_edits.specs.steps.Drafting.{IsDraftOf};
 
 use crate::drafts::Draft;

@@ -5,7 +5,7 @@ ghost use Rattle.ordered_tree.specs.Numbered.{plain_children};
 ghost use Rattle.ordered_tree.specs.RefView.{ref_node, ref_nodes};
 ghost use Rattle.plain_tree.specs.Document.{are_joined};
 ghost use Rattle.tree_edits.specs.Edits.{append, inserted, joined, with_children};
-ghost use Rattle.tree_edits.specs.steps.Acts.{act};
+ghost use Rattle.tree_edits.specs.Acts.{act};
 ghost use Rattle.tree_edits.specs.steps.Editing.{all_edited, content_of, edited};
 
 use crate::edit::Edit;

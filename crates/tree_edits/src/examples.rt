@@ -13,7 +13,7 @@ ghost use Rattle.tree_edits.specs.Examples.{a, b, c, change_of, children_of, lea
 ghost use Rattle.tree_edits.specs.Fitting.{FitsSlots};
 ghost use Rattle.tree_edits.specs.Fresh.{all_fresh};
 ghost use Rattle.tree_edits.specs.Kept.{elements_in, elements_without, picked};
-ghost use Rattle.tree_edits.specs.steps.Acts.{act_on, root_stays};
+ghost use Rattle.tree_edits.specs.Acts.{act_on, root_stays};
 ghost use Rattle.tree_edits.specs.steps.Marks.{is_marked};
 ghost use Rattle.tree_edits.specs.steps.TextTable.{is_held};
 

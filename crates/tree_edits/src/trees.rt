@@ -12,7 +12,7 @@ ghost use Rattle.tree_edits.specs.Changed.{KeepsOrder, Made};
 ghost use Rattle.tree_edits.specs.Edited.{IsEdited};
 ghost use Rattle.tree_edits.specs.Edits.{insertion, is_among, names_element, removal, replacement};
 ghost use Rattle.tree_edits.specs.declared.trees.TreeFault.TheVariants.{NoSuchNode, RootTarget};
-ghost use Rattle.tree_edits.specs.steps.Acts.{act_on, root_stays, stays};
+ghost use Rattle.tree_edits.specs.Acts.{act_on, root_stays, stays};
 
 use crate::change::Change;
 use crate::drafting::drafted;

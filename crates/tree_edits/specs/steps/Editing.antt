@@ -7,7 +7,7 @@ use Rattle.plain_tree.specs.View.{node}
 use Rattle.tree_edits.specs.Edits.{all_changed, changed}
 use Rattle.tree_edits.specs.Fresh.{all_fresh}
 use Rattle.tree_edits.specs.declared.edit.Edit.{Edit}
-use Rattle.tree_edits.specs.steps.Acts.{act}
+use Rattle.tree_edits.specs.Acts.{act}
 use Rattle.tree_edits.specs.steps.Marks.{is_marked}
 
 -- the content with the references that it gets

@@ -3,7 +3,7 @@ use Rattle.std.proofs.Common.{◌≤◌, ◌+◌, ◌∙◌, All, drop, length, 
 use Rattle.ft_base.specs.Lists.{is_empty}
 use Rattle.ordered_tree.specs.Stored.{Stored}
 use Rattle.path_nodes.specs.References.{IsElement}
-use Rattle.tree_edits.specs.steps.Acts.{stays}
+use Rattle.tree_edits.specs.Acts.{stays}
 use Rattle.collections.specs.Targets.{edit_of}
 use Rattle.collections.specs.declared.planning.Planned.{Planned}
 use Rattle.collections.specs.steps.Planning.{IsDraftOf}

@@ -1,7 +1,7 @@
 -- What is planned for the documents so far, and what is for the others, are all.
 use Rattle.std.proofs.Common.{drop}
 use Rattle.ft_base.specs.Lists.{is_empty}
-use Rattle.tree_edits.specs.steps.Acts.{stays}
+use Rattle.tree_edits.specs.Acts.{stays}
 use Rattle.collections.specs.Targets.{edit_of}
 use Rattle.collections.proofs.PlanLemmas.{Planning}
 use Rattle.collections.proofs.planning.plan_all.Given as goal

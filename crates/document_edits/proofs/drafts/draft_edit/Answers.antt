@@ -7,7 +7,7 @@ use Rattle.plain_tree.specs.Document.{nodes}
 use Rattle.plain_tree.specs.View as view
 use Rattle.tree_edits.specs.Changed.{touched}
 use Rattle.tree_edits.specs.Drafted.{IsDrafted}
-use Rattle.tree_edits.specs.steps.Acts.{act_on}
+use Rattle.tree_edits.specs.Acts.{act_on}
 use Rattle.document_edits.specs.Edited.{edited}
 use Rattle.document_edits.specs.Targets.{places_of, touched_by}
 use Rattle.document_edits.proofs.DraftLemmas.{drafted-plain, root-kept}

@@ -7,7 +7,7 @@ use Rattle.ordered_tree.specs.Numbered.{plain_children, no_children, child_then}
 use Rattle.ordered_tree.specs.Slots.{IsRow, held, row, node_at}
 use Rattle.ordered_tree.specs.declared.slot.Held.TheVariants.{Element, Text}
 use Rattle.ordered_tree.proofs.LeavesLemmas.{leaves_after-append, last_leaf-append, leaves_after-nil, last_leaf-nil, texts-element, texts-text}
-use Rattle.ordered_tree.proofs.RowLemmas.{Step, step, step-link, row-link, row-next, left-next, smaller-next, held-here, row-here, inner-here, smaller-here, node_at-is}
+use Rattle.ordered_tree.proofs.RowLemmas.{Step, step, step-link, row-link, row-next, left-next, smaller-next, held-here, not-free, row-here, inner-here, smaller-here, node_at-is}
 use Rattle.ordered_tree.proofs.SlotsLemmas.{from_link-none}
 use Rattle.ordered_tree.specs.steps.Parts.{slot_of}
 use Rattle.ordered_tree.proofs.leaves.+leaves.Goals as goal
@@ -112,3 +112,6 @@ add_leaves-returns-in-Element-clause-leaves t c =
 pub add_leaves-returns-in-Element-clause-last : goal.add_leaves-returns-in-Element-clause-last
 add_leaves-returns-in-Element-clause-last t c =
     subst (λ ts. IfOk c.add_all_leaves.result (λ new. new ≡ last_leaf c.args.last ts)) (element-is t c) c.add_all_leaves.ensures.last
+
+pub add_leaves-unreachable-requires : goal.add_leaves-unreachable-requires
+add_leaves-unreachable-requires t c = not-free c.args.slots.now c.args.here c.requires (slot_of c.get-slot.result) c.get-slot.ensures c.in-Free.is

@@ -9,7 +9,7 @@ use Rattle.ordered_tree.specs.Numbered.{plain, plain_children, children, no_chil
 use Rattle.ordered_tree.specs.Slots.{IsRow, held, row}
 use Rattle.ordered_tree.specs.declared.slot.Held.TheVariants.{Element, Text}
 use Rattle.ordered_tree.proofs.SlotsLemmas.{from_link-none}
-use Rattle.ordered_tree.proofs.RowLemmas.{Step, step, step-link, row-link, row-next, left-next, smaller-next, held-here, row-here, inner-here, smaller-here, node_at-is, plain_list, nodes-plain_list, plain-element, plain-text}
+use Rattle.ordered_tree.proofs.RowLemmas.{Step, step, step-link, row-link, row-next, left-next, smaller-next, held-here, not-free, row-here, inner-here, smaller-here, node_at-is, plain_list, nodes-plain_list, plain-element, plain-text}
 use Rattle.ordered_tree.specs.steps.Parts.{slot_of}
 use Rattle.ordered_tree.proofs.plain.+plain.Goals as goal
 
@@ -91,3 +91,6 @@ tree_of-returns-in_ok-kids_of-in-Element t c =
     ∙ ap (λ a. element c.in-Element.name a (nodes (map node c.in_ok-kids_of-in-Element.field-0))) c.in_ok-to_attrs-in-Element.ensures
     ∙ ap (element c.in-Element.name c.in-Element.attrs) kids
     ∙ sym (plain-element st.n c.in-Element.name c.in-Element.attrs is) ∙ sym (ap plain (node_at-is slots c.args.here st))
+
+pub tree_of-unreachable-requires : goal.tree_of-unreachable-requires
+tree_of-unreachable-requires t c = not-free c.args.slots.now c.args.here c.requires (slot_of c.get-slot.result) c.get-slot.ensures c.in-Free.is

@@ -7,7 +7,7 @@ use Rattle.ordered_tree.specs.RefView.{ref_node, ref_nodes}
 use Rattle.ordered_tree.specs.Slots.{IsRow, held, row}
 use Rattle.ordered_tree.specs.declared.slot.Held.TheVariants.{Element, Text}
 use Rattle.ordered_tree.proofs.SlotsLemmas.{from_link-none}
-use Rattle.ordered_tree.proofs.RowLemmas.{Step, step, step-link, row-link, row-next, left-next, smaller-next, held-here, row-here, inner-here, smaller-here, node_at-is}
+use Rattle.ordered_tree.proofs.RowLemmas.{Step, step, step-link, row-link, row-next, left-next, smaller-next, held-here, not-free, row-here, inner-here, smaller-here, node_at-is}
 use Rattle.ordered_tree.proofs.RefLists.{node_list, ref_nodes-node_list, node-element, node-text}
 use Rattle.ordered_tree.proofs.RefViews.{ref_node_element, ref_node_text}
 use Rattle.ordered_tree.specs.steps.Parts.{slot_of}
@@ -83,3 +83,6 @@ referenced-returns-in_ok-all_referenced-in-Element t c =
     ∙ ap (element_at c.args.here c.in-Element.name c.in-Element.attrs) kids
     ∙ ap (λ r. element_at r c.in-Element.name c.in-Element.attrs (children st.n)) (sym st.refers)
     ∙ sym (node-element st.n c.in-Element.name c.in-Element.attrs is) ∙ sym (node_at-is slots c.args.here st)
+
+pub referenced-unreachable-requires : goal.referenced-unreachable-requires
+referenced-unreachable-requires t c = not-free c.args.slots.now c.args.here c.requires.row (slot_of c.args.slot) c.requires.slot c.in-Free.is

@@ -7,7 +7,7 @@ use Rattle.ordered_tree.specs.Numbered.{plain_children, no_children, child_then}
 use Rattle.ordered_tree.specs.Slots.{IsRow, held, row, node_at}
 use Rattle.ordered_tree.specs.declared.slot.Held.TheVariants.{Element, Text}
 use Rattle.ordered_tree.proofs.LeavesLemmas.{texts-element, texts-text}
-use Rattle.ordered_tree.proofs.RowLemmas.{Step, step, step-link, row-link, row-next, left-next, smaller-next, held-here, row-here, inner-here, smaller-here, node_at-is}
+use Rattle.ordered_tree.proofs.RowLemmas.{Step, step, step-link, row-link, row-next, left-next, smaller-next, held-here, not-free, row-here, inner-here, smaller-here, node_at-is}
 use Rattle.ordered_tree.proofs.SlotsLemmas.{from_link-none}
 use Rattle.ordered_tree.specs.steps.Parts.{slot_of}
 use Rattle.ordered_tree.proofs.texts.+texts.Goals as goal
@@ -83,3 +83,6 @@ add_texts-returns-in-Element t c =
     let one : texts_of (row slots s.first_child) ≡ texts (node_at slots c.args.here) =
     ap texts_of (row-here slots c.args.here c.requires.row s c.requires.slot) ∙ sym (texts-element st.n c.in-Element.name c.in-Element.attrs is) ∙ sym (ap texts (node_at-is slots c.args.here st)) in
     subst (λ ts. OnOk c.add_all_texts.result (map text_of c.add_all_texts.new.list.items ≡ map text_of c.args.list.now.items ++ ts)) one c.add_all_texts.ensures
+
+pub add_texts-unreachable-requires : goal.add_texts-unreachable-requires
+add_texts-unreachable-requires t c = not-free c.args.slots.now c.args.here c.requires.row (slot_of c.args.slot) c.requires.slot c.in-Free.is

@@ -6,7 +6,7 @@ use Rattle.ordered_tree.specs.RefView.{ref_node}
 use Rattle.ordered_tree.proofs.ReferencedLemmas.{nodes-fit}
 use Rattle.plain_tree.specs.Document.{nodes}
 use Rattle.plain_tree.specs.View.{node}
-use Rattle.tree_edits.specs.steps.Acts.{act_on}
+use Rattle.tree_edits.specs.Acts.{act_on}
 use Rattle.tree_edits.specs.steps.Drafting.{IsDraftOf}
 use Rattle.tree_edits.proofs.drafting.drafted.Goals as goal
 

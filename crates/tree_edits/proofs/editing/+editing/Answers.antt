@@ -12,7 +12,7 @@ use Rattle.plain_tree.specs.View.{node}
 use Rattle.plain_tree.specs.declared.tree.Attr.{Attr}
 use Rattle.tree_edits.specs.Edits.{all_changed, append, changed, joined, only}
 use Rattle.tree_edits.specs.Fresh.{all_fresh}
-use Rattle.tree_edits.specs.steps.Acts.{act}
+use Rattle.tree_edits.specs.Acts.{act}
 use Rattle.tree_edits.specs.steps.Editing.{are_one_text}
 use Rattle.tree_edits.specs.steps.Marks.{is_marked}
 use Rattle.tree_edits.proofs.ChangedLemmas.{all_changed_append, all_changed_only, changed_chosen, changed_other}

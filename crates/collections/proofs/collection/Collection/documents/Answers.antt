@@ -13,7 +13,7 @@ returns-clause-trees c = ap (λ (i : Indexed). i.trees) c.self.view_is
 pub returns-clause-indexed : goal.returns-clause-indexed
 returns-clause-indexed c =
     let inside = c.self.inside in
-    subst (λ (i : Indexed). IsIndexOf i.abbreviations i.documents i.version) c.self.view_is (is-index inside.abbreviations inside.documents inside.version inside.next c.self.invariant.numbered)
+    subst (λ (i : Indexed). IsIndexOf i.abbreviations i.documents i.version) c.self.view_is (is-index inside.abbreviations c.tokens_law.ensures inside.documents inside.version inside.next c.self.invariant.numbered)
 
 pub returns-clause-followed : goal.returns-clause-followed
 returns-clause-followed c =

@@ -9,4 +9,4 @@ pub returns : goal.returns
 returns c =
     let inside = c.self.inside in
     c.key_count.ensures
-    ∙ (keys-total inside.abbreviations inside.documents inside.version inside.next inside.tokens c.self.invariant ∙ ap (λ (i : Indexed). key_total i.documents) c.self.view_is)
+    ∙ (keys-total inside.abbreviations c.keys_law.ensures c.words_law.ensures.words inside.documents inside.version inside.next inside.tokens c.self.invariant ∙ ap (λ (i : Indexed). key_total i.documents) c.self.view_is)

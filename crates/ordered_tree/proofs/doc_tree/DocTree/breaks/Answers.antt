@@ -19,6 +19,10 @@ pass_node-requires-clause-row c =
     let slots = c.self.inside.slots in
     root-row slots c.self.inside.free c.self.invariant.stored (fits slots c.self.inside.free (root_of slots) c.self.invariant.stored)
 
+pub pass_node-requires-clause-few : goal.pass_node-requires-clause-few
+unfolding root_of
+pass_node-requires-clause-few c = omega (arith, c.new-starts.ensures.words, c.self.invariant.stored.few_words)
+
 pub returns-clause-sentences : goal.returns-clause-sentences
 unfolding root_of tokens
 returns-clause-sentences c =
