@@ -10,7 +10,7 @@ use Rattle.query_symbols.specs.declared.lexeme.Lexeme.{Lexeme}
 use Rattle.query_symbols.specs.declared.lexeme.Quoted.{Quoted}
 use Rattle.selection_grammar.specs.declared.symbol.Symbol.{Symbol}
 use Rattle.selection_grammar.specs.declared.symbol.Symbol.TheVariants.{Name, Number, Text, Slash, DoubleSlash, OpenBracket, CloseBracket, OpenParenthesis}
-use Rattle.selection_grammar.specs.declared.symbol.Symbol.TheVariants.{CloseParenthesis, OpenBrace, CloseBrace, Comma, At, Equals, Period, Star}
+use Rattle.selection_grammar.specs.declared.symbol.Symbol.TheVariants.{CloseParenthesis, OpenBrace, CloseBrace, Comma, At, Equals, Period, Star, VerticalBar}
 use Rattle.selection_grammar.specs.declared.symbol.Placed.{Placed}
 use Rattle.selection_grammar.specs.declared.symbol.Symbols.{Symbols}
 
@@ -53,7 +53,8 @@ mark_of c =
     else if c == 123 then Some OpenBrace else if c == 125 then Some CloseBrace
     else if c == 44 then Some Comma else if c == 64 then Some At
     else if c == 61 then Some Equals else if c == 46 then Some Period
-    else if c == 42 then Some Star else None
+    else if c == 42 then Some Star else if c == 124 then Some VerticalBar
+    else None
 
 abbrev pub mark_at : ℕ → Option Lexeme
 mark_at c = option_map (λ symbol. record { symbol = symbol; size = 1 }) (mark_of c)

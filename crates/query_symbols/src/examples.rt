@@ -32,6 +32,8 @@ pub fn marks()
         ≡ whole (from_to 0 1 S.OpenBracket ∷ from_to 1 2 S.OpenParenthesis ∷ from_to 2 3 S.At ∷ from_to 3 4 (S.Name (codes "a"))
         ∷ from_to 4 5 S.Comma ∷ from_to 5 6 S.Equals ∷ from_to 6 7 S.OpenBrace ∷ from_to 7 8 S.CloseBrace
         ∷ from_to 8 9 S.CloseParenthesis ∷ from_to 9 10 S.CloseBracket ∷ []) }
+    ensures bars { symbols_of (codes "a|.|\"|\"") ≡ whole (from_to 0 1 (S.Name (codes "a")) ∷ from_to 1 2 S.VerticalBar ∷ from_to 2 3 S.Period
+        ∷ from_to 3 4 S.VerticalBar ∷ from_to 4 7 (S.Text (codes "|")) ∷ []) }
     ensures no_symbol { symbols_of (codes "a # b") ≡ bad_at 2 (from_to 0 1 (S.Name (codes "a")) ∷ []) }
     ensures blanks { symbols_of (codes " \t ") ≡ whole [] }
 {}

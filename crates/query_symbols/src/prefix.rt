@@ -115,6 +115,7 @@ fn mark(c: char) -> Option<Lexeme>
         '=' => Symbol::Equals,
         '.' => Symbol::Period,
         '*' => Symbol::Star,
+        '|' => Symbol::VerticalBar,
         _ => return None,
     };
     Some(Lexeme { symbol, size: 1 })

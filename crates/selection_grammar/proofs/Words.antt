@@ -23,6 +23,7 @@ word_is key S.At h = cc
 word_is key S.Equals h = cc
 word_is key S.Period h = cc
 word_is key S.Star h = cc
+word_is key S.VerticalBar h = cc
 
 pub number_is : (symbol : Symbol) (n : ℕ) → number_of symbol ≡ Some n → symbol ≡ S.Number n
 number_is (S.Number m) n h = let e : m ≡ n = cc in ap S.Number e

@@ -22,6 +22,7 @@ pub enum Symbol {
     Equals,
     Period,
     Star,
+    VerticalBar,
 }
 
 /// A symbol with its place in the text.

@@ -87,7 +87,7 @@ mark_symbol : (c : ℕ) → MarkContent (mark_of c)
 mark_symbol c =
     either_mark c 91 S.OpenBracket _ tt (either_mark c 93 S.CloseBracket _ tt (either_mark c 40 S.OpenParenthesis _ tt (either_mark c 41 S.CloseParenthesis _ tt
     (either_mark c 123 S.OpenBrace _ tt (either_mark c 125 S.CloseBrace _ tt (either_mark c 44 S.Comma _ tt (either_mark c 64 S.At _ tt
-    (either_mark c 61 S.Equals _ tt (either_mark c 46 S.Period _ tt (either_mark c 42 S.Star None tt tt))))))))))
+    (either_mark c 61 S.Equals _ tt (either_mark c 46 S.Period _ tt (either_mark c 42 S.Star _ tt (either_mark c 124 S.VerticalBar None tt tt)))))))))))
 
 mark_content : (c : ℕ) → FirstContent (mark_at c)
 mark_content c = go (mark_of c) (mark_symbol c)

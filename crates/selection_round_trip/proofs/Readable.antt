@@ -170,3 +170,4 @@ readable S.At h = absurd h
 readable S.Equals h = absurd h
 readable S.Period h = absurd h
 readable S.Star h = absurd h
+readable S.VerticalBar h = absurd h

@@ -31,6 +31,7 @@ spelling S.At = codes "@"
 spelling S.Equals = codes "="
 spelling S.Period = codes "."
 spelling S.Star = codes "*"
+spelling S.VerticalBar = codes "|"
 
 abbrev pub spellings : List Placed → List (List ℕ)
 spellings [] = []

@@ -14,6 +14,10 @@ pub returns-clause-brackets : goal.returns-clause-brackets
 unfolding symbols_of symbols_within first_lexeme is_name_start is_name_char chars encode
 returns-clause-brackets c = refl
 
+pub returns-clause-bars : goal.returns-clause-bars
+unfolding symbols_of symbols_within first_lexeme is_name_start is_name_char chars encode
+returns-clause-bars c = refl
+
 pub returns-clause-no_symbol : goal.returns-clause-no_symbol
 unfolding symbols_of symbols_within first_lexeme is_name_start is_name_char chars encode
 returns-clause-no_symbol c = refl
