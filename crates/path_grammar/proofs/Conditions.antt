@@ -12,9 +12,9 @@ use Rattle.path_grammar.specs.Form as form
 use Rattle.path_grammar.specs.Form.{steps, predicates, joined, or_of, and_of}
 use Rattle.path_grammar.specs.Grammar.{Inside, Slashes, Test}
 use Rattle.path_grammar.specs.steps.Machine as m
-use Rattle.path_grammar.specs.steps.Machine.{LastStep, tested, all_steps, filtered, Joint, no_joint, ands_with, ors_with, Frame, Stage, Inner, stand, advance_inner}
+use Rattle.path_grammar.specs.steps.Machine.{LastStep, tested, all_steps, filtered, Joint, to_left, no_joint, ands_with, ors_with, Frame, Stage, Inner, stand, advance_inner}
 use Rattle.path_grammar.proofs.Followers.{Follower}
-use Rattle.path_grammar.proofs.Walks.{Walks, stays, one, goes_on, walks_same, AtStep, After, bracket_opens, slash_walk, test_walk, Ends}
+use Rattle.path_grammar.proofs.Walks.{Walks, stays, one, goes_on, walks_same, AtStep, After, bracket_opens, slash_walk, test_walk, AtRel, period_leads, Ends}
 
 -- after predicates, after steps, and after conditions
 pub record PredicatesWalk (frames : List Frame) (joint : Joint) (all : List Inside) (s : Inner) (u : List Placed) (last : LastStep) (levels : ℕ) : Type 0 where
@@ -38,7 +38,7 @@ pub record AndsWalk (frame : Frame) (outer : List Frame) (ors xs : List form.Con
   pub first : List form.Condition
   pub last : form.Condition
   pub conditions : first ++ last ∷ [] ≡ xs
-  pub ends : Ends frame outer (record { ors = ors; ands = first }) last all there
+  pub ends : Ends frame outer (to_left ors first) last all there
 
 pub record OrsWalk (frame : Frame) (outer : List Frame) (xs : List form.Condition) (all : List Inside) (s : Inner) (u : List Placed) (levels : ℕ) : Type 0 where
   pub there : Inner
@@ -121,18 +121,20 @@ further_step_walk all ss tt ys xs x b w =
     steps_same (record { stage = w.stage; suffix = w.suffix; walks = walks_same (goes_on b.walks w.walks) refl (omega arith) }) (append_assoc all ss tt) (append_assoc ys xs (x ∷ []))
 
 -- the steps of a condition
-pub itself_walk : {frame : Frame} {outer : List Frame} {joint : Joint} {all more : List Inside} {u : List Placed} {xs : List form.Step} {l : ℕ} (first : Bool) (p : Spot)
+pub itself_walk : {frame : Frame} {outer : List Frame} {joint : Joint} {all more : List Inside} {stage : Stage} {u : List Placed} {xs : List form.Step} {l : ℕ} → AtRel stage → (p : Spot)
     → StepsWalk (frame ∷ outer) joint more (stand (frame ∷ outer) joint all m.no_step) u xs l
-    → StepsWalk (frame ∷ outer) joint more (stand (frame ∷ outer) joint all (m.wanted first)) (at p S.Period ∷ u) xs l
-itself_walk {frame = frame} {outer = outer} {joint = joint} {all = all} first p w = record { stage = w.stage; suffix = w.suffix; walks = walks_same (goes_on period w.walks) refl (omega arith) }
+    → StepsWalk (frame ∷ outer) joint more (stand (frame ∷ outer) joint all stage) (at p S.Period ∷ u) xs l
+itself_walk {frame = frame} {outer = outer} {joint = joint} {all = all} {stage = stage} b p w = record { stage = w.stage; suffix = w.suffix; walks = walks_same (goes_on period w.walks) refl (omega arith) }
   where
-    period : Walks (stand (frame ∷ outer) joint all (m.wanted first)) (at p S.Period ∷ []) (stand (frame ∷ outer) joint all m.no_step) (max (suc (length outer)) (suc (length outer)))
-    period = one (at p S.Period) refl
+    period : Walks (stand (frame ∷ outer) joint all stage) (at p S.Period ∷ []) (stand (frame ∷ outer) joint all m.no_step) (max (suc (length outer)) (suc (length outer)))
+    period = one (at p S.Period) (period_leads frame outer joint all p b)
 
-pub child_walk : (frame : Frame) (outer : List Frame) (joint : Joint) (all : List Inside) (first : Bool) {u : List Placed} {test : NameTest} → Test u test
-    → PredicatesWalk (frame ∷ outer) joint all (stand (frame ∷ outer) joint all (m.wanted first)) u (tested [] false test) 0
-child_walk frame outer joint all first (Test.any p) = record { stage = m.stepped (tested [] false T.Any); at_it = AtStep.at_step (tested [] false T.Any); walks = walks_same (one (at p S.Star) refl) refl (omega arith) }
-child_walk frame outer joint all first (Test.named p s) = go (is_word (codes "not") (S.Name s)) refl
+pub child_walk : {stage : Stage} (frame : Frame) (outer : List Frame) (joint : Joint) (all : List Inside) → AtRel stage → {u : List Placed} {test : NameTest} → Test u test
+    → PredicatesWalk (frame ∷ outer) joint all (stand (frame ∷ outer) joint all stage) u (tested [] false test) 0
+child_walk frame outer joint all (AtRel.wanted first) (Test.any p) = record { stage = m.stepped (tested [] false T.Any); at_it = AtStep.at_step (tested [] false T.Any); walks = walks_same (one (at p S.Star) refl) refl (omega arith) }
+child_walk frame outer joint all AtRel.path_wanted (Test.any p) = record { stage = m.stepped (tested [] false T.Any); at_it = AtStep.at_step (tested [] false T.Any); walks = walks_same (one (at p S.Star) refl) refl (omega arith) }
+child_walk frame outer joint all AtRel.path_wanted (Test.named p s) = record { stage = m.stepped (tested [] false (T.Name s)); at_it = AtStep.at_step (tested [] false (T.Name s)); walks = walks_same (one (name p s) refl) refl (omega arith) }
+child_walk frame outer joint all (AtRel.wanted first) (Test.named p s) = go (is_word (codes "not") (S.Name s)) refl
   where
     leads : (b : Bool) → is_word (codes "not") (S.Name s) ≡ b
         → advance_inner (stand (frame ∷ outer) joint all (m.wanted first)) (name p s) ≡ m.otherwise (cond b (Some (stand (frame ∷ outer) joint all m.not_name)) (Some (stand (frame ∷ outer) joint all (m.stepped (tested [] false (T.Name s)))))) None

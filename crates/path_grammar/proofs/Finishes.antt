@@ -15,11 +15,11 @@ use Rattle.path_grammar.specs.Form.{steps}
 use Rattle.path_grammar.specs.Grammar as g
 use Rattle.path_grammar.specs.Grammar.{Inside}
 use Rattle.path_grammar.specs.steps.Machine as m
-use Rattle.path_grammar.specs.steps.Machine.{LastStep, tested, all_steps, filtered, Joint, condition_with, Frame, Stage, Inner, stand}
+use Rattle.path_grammar.specs.steps.Machine.{LastStep, tested, all_steps, filtered, Joint, to_left, ignored, condition_with, Frame, Stage, Inner, stand}
 use Rattle.path_grammar.proofs.Standing.{Under, Place, Opened, Stands}
 use Rattle.path_grammar.proofs.Followers.{Follower}
-use Rattle.path_grammar.proofs.Walks.{Walks, stays, one, goes_on, walks_same, AtStep, After, slash_walk, test_walk, Ends, after_ends, ended_ends, attribute_ends}
-use Rattle.path_grammar.proofs.Primaries.{selecting_walk, selecting_ends}
+use Rattle.path_grammar.proofs.Walks.{Walks, stays, one, goes_on, walks_same, AtStep, After, slash_walk, test_walk, AtRel, period_leads, Ends, after_ends, ended_ends, attribute_ends}
+use Rattle.path_grammar.proofs.Primaries.{selecting_walk, selecting_ends, from_paths}
 
 here : Spot
 here = (0, 0)
@@ -74,10 +74,12 @@ mutual
   place_based : {u : List Placed} {frames : List Frame} {joint : Joint} {ss : List Inside} → Place u frames joint ss → Based frames
   place_based Place.at_root = tt
   place_based (Place.in_condition a b) = opened_based a
+  place_based (Place.in_ignored a b) = place_based a
 
   bracket_based : {u : List Placed} {frames : List Frame} {joint : Joint} {ss : List Inside} (j : Joint) (last : LastStep) → Place u frames joint ss → Based (m.brackets j last ∷ frames)
   bracket_based j last Place.at_root = tt
   bracket_based j last (Place.in_condition a b) = opened_based a
+  bracket_based j last (Place.in_ignored a b) = place_based a
 
 -- before a step
 test_finish : (frames : List Frame) (joint : Joint) (all : List Inside) (xs : List form.Step) (deep : Bool) → Based frames → Finish (stand frames joint all (m.slashes xs deep))
@@ -86,11 +88,11 @@ test_finish frames joint all xs deep b = finish_by (test_walk frames joint all x
 no_step_finish : (frames : List Frame) (joint : Joint) (all : List Inside) → Based frames → Finish (stand frames joint all m.no_step)
 no_step_finish frames joint all b = finish_by (slash_walk joint all After.after_none (g.child here)) (omega arith) (test_finish frames joint all [] false b)
 
-wanted_finish : (frame : Frame) (outer : List Frame) (joint : Joint) (all : List Inside) (first : Bool) → Based (frame ∷ outer) → Finish (stand (frame ∷ outer) joint all (m.wanted first))
-wanted_finish frame outer joint all first b = finish_by dot (omega arith) (close_all frame outer b (after_ends joint all After.after_none))
+rel_finish : {stage : Stage} (frame : Frame) (outer : List Frame) (joint : Joint) (all : List Inside) → AtRel stage → Based (frame ∷ outer) → Finish (stand (frame ∷ outer) joint all stage)
+rel_finish {stage = stage} frame outer joint all a b = finish_by dot (omega arith) (close_all frame outer b (after_ends joint all After.after_none))
   where
-    dot : Walks (stand (frame ∷ outer) joint all (m.wanted first)) (at (0, 0) S.Period ∷ []) (stand (frame ∷ outer) joint all m.no_step) (max (suc (length outer)) (suc (length outer)))
-    dot = one (at (0, 0) S.Period) refl
+    dot : Walks (stand (frame ∷ outer) joint all stage) (at (0, 0) S.Period ∷ []) (stand (frame ∷ outer) joint all m.no_step) (max (suc (length outer)) (suc (length outer)))
+    dot = one (at (0, 0) S.Period) (period_leads frame outer joint all (0, 0) a)
 
 equals_finish : (frame : Frame) (outer : List Frame) (joint : Joint) (all : List Inside) (s : List ℕ) → Based (frame ∷ outer) → Finish (stand (frame ∷ outer) joint all (m.equals s))
 equals_finish frame outer joint all s b = finish_by value (omega arith) (close_all frame outer b (ended_ends frame outer joint (form.attribute s (Some [])) all))
@@ -127,23 +129,32 @@ contains_finish frame outer joint all xs b = finish_by texted (omega arith) (sel
     texted : Walks (stand (frame ∷ outer) joint all (m.contains xs)) (name (0, 0) (codes "text") ∷ []) (stand (frame ∷ outer) joint all (m.selecting xs [] (Shape.whole selection.start))) (max (suc (length outer)) (suc (length outer)))
     texted = one (name (0, 0) (codes "text")) refl
 
+-- `content`, and then a path
+without_finish : (frame : Frame) (outer : List Frame) (ors ands : List form.Condition) (all : List Inside) (xs : List form.Step) (k : ℕ) → Based (frame ∷ outer) → Finish (stand (frame ∷ outer) (to_left ors ands) all (m.without xs k))
+without_finish frame outer ors ands all xs k b = finish_by content (omega arith) (rel_finish frame outer (ignored ors ands (from_paths xs k [])) all AtRel.path_wanted b)
+  where
+    content : Walks (stand (frame ∷ outer) (to_left ors ands) all (m.without xs k)) (name (0, 0) (codes "content") ∷ []) (stand (frame ∷ outer) (ignored ors ands (from_paths xs k [])) all m.path_wanted) (max (suc (length outer)) (suc (length outer)))
+    content = one (name (0, 0) (codes "content")) refl
+
 -- wherever the machine stands after the root
-under_finish : {frames : List Frame} {n : ℕ} {v : List Placed} {stage : Stage} {tt : List Inside} (joint : Joint) (all : List Inside) → Based frames → Under frames n v stage tt → Finish (stand frames joint all stage)
-under_finish {frames = frames} joint all b (Under.no_step x) = no_step_finish frames joint all b
-under_finish {frames = frames} joint all b (Under.slashes {xs = xs} {deep = deep} x s) = test_finish frames joint all xs deep b
-under_finish {frames = frames} joint all b (Under.stepped {last = last} x) = at_last frames joint all last b
-under_finish joint all b (Under.wanted {frame = frame} {outer = outer}) = wanted_finish frame outer joint all false b
-under_finish joint all b (Under.not_name {frame = frame} {outer = outer} p) = close_all frame outer b (after_ends joint all (After.after_step AtStep.at_not))
-under_finish joint all b (Under.at_sign {frame = frame} {outer = outer} p) = sign_finish frame outer joint all b
-under_finish joint all b (Under.attribute {frame = frame} {outer = outer} p q s) = close_all frame outer b (attribute_ends frame outer joint s all)
-under_finish joint all b (Under.equals {frame = frame} {outer = outer} p q r s) = equals_finish frame outer joint all s b
-under_finish joint all b (Under.ended {frame = frame} {outer = outer} {c = c} x) = close_all frame outer b (ended_ends frame outer joint c all)
-under_finish joint all b (Under.contains {frame = frame} {outer = outer} {xs = xs} x p) = contains_finish frame outer joint all xs b
-under_finish joint all b (Under.selecting {frame = frame} {outer = outer} {xs = xs} x p q v shape r) = selecting_finish frame outer joint all xs v shape r b
+under_finish : {frames : List Frame} {joint : Joint} {n : ℕ} {v : List Placed} {stage : Stage} {tt : List Inside} (all : List Inside) → Based frames → Under frames joint n v stage tt → Finish (stand frames joint all stage)
+under_finish {frames = frames} {joint = joint} all b (Under.no_step x) = no_step_finish frames joint all b
+under_finish {frames = frames} {joint = joint} all b (Under.slashes {xs = xs} {deep = deep} x s) = test_finish frames joint all xs deep b
+under_finish {frames = frames} {joint = joint} all b (Under.stepped {last = last} x) = at_last frames joint all last b
+under_finish {joint = joint} all b (Under.wanted {frame = frame} {outer = outer}) = rel_finish frame outer joint all (AtRel.wanted false) b
+under_finish {joint = joint} all b (Under.not_name {frame = frame} {outer = outer} p) = close_all frame outer b (after_ends joint all (After.after_step AtStep.at_not))
+under_finish {joint = joint} all b (Under.at_sign {frame = frame} {outer = outer} p) = sign_finish frame outer joint all b
+under_finish {joint = joint} all b (Under.attribute {frame = frame} {outer = outer} p q s) = close_all frame outer b (attribute_ends frame outer joint s all)
+under_finish {joint = joint} all b (Under.equals {frame = frame} {outer = outer} p q r s) = equals_finish frame outer joint all s b
+under_finish {joint = joint} all b (Under.ended {frame = frame} {outer = outer} {c = c} x) = close_all frame outer b (ended_ends frame outer joint c all)
+under_finish {joint = joint} all b (Under.contains {frame = frame} {outer = outer} {xs = xs} x p) = contains_finish frame outer joint all xs b
+under_finish {joint = joint} all b (Under.selecting {frame = frame} {outer = outer} {xs = xs} x p q v shape r) = selecting_finish frame outer joint all xs v shape r b
+under_finish all b (Under.without {frame = frame} {outer = outer} {ors = ors} {ands = ands} {xs = xs} x p q selected r k n) = without_finish frame outer ors ands all xs k b
+under_finish {joint = joint} all b (Under.path_wanted {frame = frame} {outer = outer}) = rel_finish frame outer joint all AtRel.path_wanted b
 
 pub finish : {u : List Placed} {s : Inner} → Stands u s → Finish s
-finish (Stands.under {joint = joint} {ss = ss} {ts = more} a x) = under_finish joint (ss ++ more) (place_based a) x
-finish (Stands.bracket {outer = outer} {joint = joint} {last = last} {ss = ss} a) = wanted_finish (m.brackets joint last) outer m.no_joint ss true (opened_based a)
+finish (Stands.under {ss = ss} {ts = more} a x) = under_finish (ss ++ more) (place_based a) x
+finish (Stands.bracket {outer = outer} {joint = joint} {last = last} {ss = ss} a) = rel_finish (m.brackets joint last) outer m.no_joint ss (AtRel.wanted true) (opened_based a)
 finish (Stands.number {outer = outer} {joint = joint} {last = last} {ss = ss} a p k) = number_finish joint last outer m.no_joint ss k (outer_based a)
   where
     outer_based : {u : List Placed} {outer : List Frame} {joint : Joint} {last : LastStep} {ss : List Inside} → Opened u (m.brackets joint last ∷ outer) ss → Based outer

@@ -6,10 +6,11 @@ use Rattle.selection_grammar.specs.declared.symbol.Symbol.TheVariants as S
 use Rattle.selection_grammar.specs.declared.symbol.Placed.{Placed}
 use Rattle.selection_grammar.specs.Shapes.{Shape}
 use Rattle.selection_grammar.specs.steps.Machine as selection
+use Rattle.selection_grammar.specs.Tree.{Tree}
 use Rattle.path_grammar.specs.Form as form
 use Rattle.path_grammar.specs.Grammar.{Inside}
 use Rattle.path_grammar.specs.steps.Machine as m
-use Rattle.path_grammar.specs.steps.Machine.{LastStep, Joint, Frame, Stage, Inner, stand, RootStage, State, advance, open_count, read, most_open}
+use Rattle.path_grammar.specs.steps.Machine.{LastStep, Ignoring, Joint, to_left, Frame, Stage, Inner, stand, RootStage, State, advance, open_count, read, most_open}
 use Rattle.path_grammar.proofs.Moves.{by_word}
 use Rattle.path_grammar.proofs.Reached.{by_otherwise}
 
@@ -22,11 +23,20 @@ data Kept : Symbol → ℕ → ℕ → Type 0 where
 kept : {z : Symbol} {before : ℕ} {s t : Inner} → Some s ≡ Some t → length s.frames ≤ before → Kept z before (length t.frames)
 kept {s = s} {t = t} e few = let there : s ≡ t = cc in Kept.no_more (omega (arith, few, ap (λ (r : Inner). length r.frames) there))
 
+contains_keeps : {z : Symbol} (frame : Frame) (outer : List Frame) (joint : Joint) (all : List Inside) (xs : List form.Step) (o : Option Ignoring) (t : Inner) → m.unless_ignored o (Some (stand (frame ∷ outer) joint all (m.contains xs))) ≡ Some t → Kept z (length (frame ∷ outer)) (length t.frames)
+contains_keeps frame outer joint all xs None t e = kept e (omega arith)
+contains_keeps frame outer joint all xs (Some i) t e = cc
+
+bar_keeps : {z : Symbol} (frames : List Frame) (joint : Joint) (all : List Inside) (xs : List form.Step) (o : Option Ignoring) (t : Inner) → m.bar_next frames joint all xs o ≡ Some t → Kept z (length frames) (length t.frames)
+bar_keeps frames joint all xs None t e = cc
+bar_keeps frames joint all xs (Some i) t e = kept e (omega arith)
+
 steps_keep : (frames : List Frame) (joint : Joint) (all : List Inside) (xs : List form.Step) (z : Symbol) (t : Inner) → m.steps_next frames joint all xs z ≡ Some t → Kept z (length frames) (length t.frames)
 steps_keep frames joint all xs S.Slash t e = kept e (omega arith)
 steps_keep frames joint all xs S.DoubleSlash t e = kept e (omega arith)
 steps_keep [] joint all xs (S.Name s) t e = by_word (codes "contains") (S.Name s) None None t (λ k h. cc) (λ h. cc) e
-steps_keep (frame ∷ outer) joint all xs (S.Name s) t e = by_word (codes "contains") (S.Name s) (Some (stand (frame ∷ outer) joint all (m.contains xs))) None t (λ k h. kept h (omega arith)) (λ h. cc) e
+steps_keep (frame ∷ outer) joint all xs (S.Name s) t e = by_word (codes "contains") (S.Name s) (m.contains_next (frame ∷ outer) joint all xs) None t (λ k h. contains_keeps frame outer joint all xs joint.ignoring t h) (λ h. cc) e
+steps_keep frames joint all xs S.VerticalBar t e = bar_keeps frames joint all xs joint.ignoring t e
 steps_keep frames joint all xs other t e = cc
 
 step_keeps : (frames : List Frame) (joint : Joint) (all : List Inside) (last : LastStep) (z : Symbol) (t : Inner) → m.step_next frames joint all last z ≡ Some t → Kept z (length frames) (length t.frames)
@@ -87,6 +97,22 @@ selecting_keeps : {z : Symbol} (frames : List Frame) (joint : Joint) (all : List
 selecting_keeps frames joint all xs w None t e = cc
 selecting_keeps frames joint all xs w (Some shape) t e = kept e (omega arith)
 
+path_keeps : (frames : List Frame) (joint : Joint) (all : List Inside) (z : Symbol) (t : Inner) → m.path_next frames joint all z ≡ Some t → Kept z (length frames) (length t.frames)
+path_keeps frames joint all S.Period t e = kept e (omega arith)
+path_keeps frames joint all (S.Name s) t e = kept e (omega arith)
+path_keeps frames joint all S.Star t e = kept e (omega arith)
+path_keeps frames joint all other t e = cc
+
+without_keeps : (frames : List Frame) (joint : Joint) (all : List Inside) (xs : List form.Step) (k : ℕ) (z : Symbol) (t : Inner) → m.without_next frames joint all xs k z ≡ Some t → Kept z (length frames) (length t.frames)
+without_keeps frames joint all xs n z t e = by_word (codes "without") z (Some (stand frames joint all (m.without xs n))) None t (λ k h. kept h (omega arith)) (λ h. cc) e
+
+content_keeps : (frames : List Frame) (joint : Joint) (all : List Inside) (xs : List form.Step) (k : ℕ) (z : Symbol) (t : Inner) → m.content_next frames joint all xs k z ≡ Some t → Kept z (length frames) (length t.frames)
+content_keeps frames joint all xs n z t e = by_word (codes "content") z (Some _) None t (λ k h. kept h (omega arith)) (λ h. cc) e
+
+whole_keeps : (frames : List Frame) (joint : Joint) (all : List Inside) (xs : List form.Step) (w : List Placed) (o : Option Tree) (z : Symbol) (t : Inner) → m.whole_next frames joint all xs w o z ≡ Some t → Kept z (length frames) (length t.frames)
+whole_keeps frames joint all xs w None z t e = cc
+whole_keeps frames joint all xs w (Some tree) z t e = without_keeps frames joint _ xs (length all) z t e
+
 within_keeps : (frames : List Frame) (joint : Joint) (all : List Inside) (stage : Stage) (p : Placed) (t : Inner) → m.within_next frames joint all stage p ≡ Some t → Kept p.symbol (length frames) (length t.frames)
 within_keeps frames joint all m.no_step p t e = steps_keep frames joint all [] p.symbol t e
 within_keeps frames joint all (m.slashes xs deep) p t e = test_keeps frames joint all xs deep p.symbol t e
@@ -99,15 +125,20 @@ within_keeps frames joint all (m.attribute s) p t e = attribute_keeps frames joi
 within_keeps frames joint all (m.equals s) p t e = value_keeps frames joint all s p.symbol t e
 within_keeps frames joint all (m.ended c) p t e = cc
 within_keeps frames joint all (m.contains xs) p t e = text_keeps frames joint all xs p.symbol t e
-within_keeps frames joint all (m.selecting xs w shape) p t e = selecting_keeps frames joint all xs (w ++ p ∷ []) (selection.advance shape p) t e
+within_keeps frames joint all (m.selecting xs w shape) p t e =
+    by_otherwise (m.selecting_next frames joint all xs (w ++ p ∷ []) (selection.advance shape p)) (m.whole_next frames joint all xs w (selection.finished_at shape) p.symbol) t
+    (λ h. selecting_keeps frames joint all xs (w ++ p ∷ []) (selection.advance shape p) t h) (λ h. whole_keeps frames joint all xs w (selection.finished_at shape) p.symbol t h) e
+within_keeps frames joint all (m.selected xs k) p t e = without_keeps frames joint all xs k p.symbol t e
+within_keeps frames joint all (m.without xs k) p t e = content_keeps frames joint all xs k p.symbol t e
+within_keeps frames joint all m.path_wanted p t e = path_keeps frames joint all p.symbol t e
 
 joint_keeps : (frames : List Frame) (joint : Joint) (c : form.Condition) (all : List Inside) (z : Symbol) (t : Inner) → m.joint_next frames joint c all z ≡ Some t → Kept z (length frames) (length t.frames)
 joint_keeps [] joint c all z t e = cc
 joint_keeps (frame ∷ outer) joint c all S.CloseBracket t e = close_bracket_keeps (frame ∷ outer) all (form.holds (m.condition_with joint c)) t e
 joint_keeps (frame ∷ outer) joint c all S.CloseParenthesis t e = close_parenthesis_keeps (frame ∷ outer) all (m.condition_with joint c) t e
 joint_keeps (frame ∷ outer) joint c all (S.Name s) t e =
-    by_word (codes "and") (S.Name s) (Some (stand (frame ∷ outer) (record { ors = joint.ors; ands = m.ands_with joint c }) all (m.wanted false))) _ t (λ k h. kept h (omega arith))
-    (λ i. by_word (codes "or") (S.Name s) (Some (stand (frame ∷ outer) (record { ors = m.ors_with joint c; ands = [] }) all (m.wanted false))) None t (λ k h. kept h (omega arith)) (λ h. cc) i) e
+    by_word (codes "and") (S.Name s) (Some (stand (frame ∷ outer) (to_left joint.ors (m.ands_with joint c)) all (m.wanted false))) _ t (λ k h. kept h (omega arith))
+    (λ i. by_word (codes "or") (S.Name s) (Some (stand (frame ∷ outer) (to_left (m.ors_with joint c) []) all (m.wanted false))) None t (λ k h. kept h (omega arith)) (λ h. cc) i) e
 joint_keeps (frame ∷ outer) joint c all other t e = cc
 
 after_keeps : (frames : List Frame) (joint : Joint) (o : Option (form.Condition × List Inside)) (z : Symbol) (t : Inner) → m.after_next frames joint o z ≡ Some t → Kept z (length frames) (length t.frames)
@@ -116,8 +147,8 @@ after_keeps frames joint (Some (c, all)) z t e = joint_keeps frames joint c all 
 
 inner_keeps : (s t : Inner) (p : Placed) → m.advance_inner s p ≡ Some t → Kept p.symbol (length s.frames) (length t.frames)
 inner_keeps s t p e =
-    by_otherwise (m.within_next s.frames s.joint s.selections s.stage p) (m.after_next s.frames s.joint (m.condition_at s.selections s.stage) p.symbol) t
-    (λ h. within_keeps s.frames s.joint s.selections s.stage p t h) (λ h. after_keeps s.frames s.joint (m.condition_at s.selections s.stage) p.symbol t h) e
+    by_otherwise (m.within_next s.frames s.joint s.selections s.stage p) (m.after_next s.frames s.joint (m.condition_at s.joint.ignoring s.selections s.stage) p.symbol) t
+    (λ h. within_keeps s.frames s.joint s.selections s.stage p t h) (λ h. after_keeps s.frames s.joint (m.condition_at s.joint.ignoring s.selections s.stage) p.symbol t h) e
 
 -- and in the root
 root_kept : {z : Symbol} {s t : State} → Some s ≡ Some t → open_count s ≡ 0 → Kept z 0 (open_count t)

@@ -86,6 +86,7 @@ inner_path r (Stands.under Place.at_root (Under.stepped x)) e = spelled (trail_p
 inner_path r (Stands.under Place.at_root (Under.no_step x)) e = cc
 inner_path r (Stands.under Place.at_root (Under.slashes x s)) e = cc
 inner_path r (Stands.under (Place.in_condition a b) x) e = cc
+inner_path r (Stands.under (Place.in_ignored a b) x) e = cc
 inner_path r (Stands.bracket a) e = cc
 inner_path r (Stands.number a p k) e = cc
 

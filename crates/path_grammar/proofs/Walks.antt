@@ -7,10 +7,9 @@ use Rattle.selection_grammar.specs.declared.symbol.Placed.{Placed}
 use Rattle.selection_grammar.specs.Grammar.{Spot, at, name}
 use Rattle.path_grammar.specs.declared.path.NameTest.{NameTest}
 use Rattle.path_grammar.specs.Form as form
-use Rattle.path_grammar.specs.Form.{steps}
 use Rattle.path_grammar.specs.Grammar.{Inside, Slashes, Test}
 use Rattle.path_grammar.specs.steps.Machine as m
-use Rattle.path_grammar.specs.steps.Machine.{LastStep, tested, all_steps, Joint, no_joint, Frame, Stage, Inner, stand, advance_inner}
+use Rattle.path_grammar.specs.steps.Machine.{LastStep, tested, all_steps, Ignoring, with_path, Joint, to_left, no_joint, ignored, steps_condition, Frame, Stage, Inner, stand, advance_inner}
 use Rattle.path_grammar.proofs.Followers.{Follower}
 
 abbrev pub run_inner : Option Inner → List Placed → Option Inner
@@ -92,11 +91,27 @@ pub test_walk : (frames : List Frame) (joint : Joint) (all : List Inside) (xs : 
 test_walk frames joint all xs deep (Test.named p s) = walks_same (one (name p s) refl) refl (omega arith)
 test_walk frames joint all xs deep (Test.any p) = walks_same (one (at p S.Star) refl) refl (omega arith)
 
-pub contains_leads : {frame : Frame} {outer : List Frame} {xs : List form.Step} {stage : Stage} (joint : Joint) (all : List Inside) (p : Spot) → After (frame ∷ outer) xs stage
-    → advance_inner (stand (frame ∷ outer) joint all stage) (name p (codes "contains")) ≡ Some (stand (frame ∷ outer) joint all (m.contains xs))
-contains_leads joint all p After.after_none = refl
-contains_leads joint all p (After.after_step (AtStep.at_step last)) = refl
-contains_leads joint all p (After.after_step AtStep.at_not) = refl
+pub contains_leads : {frame : Frame} {outer : List Frame} {xs : List form.Step} {stage : Stage} (ors ands : List form.Condition) (all : List Inside) (p : Spot) → After (frame ∷ outer) xs stage
+    → advance_inner (stand (frame ∷ outer) (to_left ors ands) all stage) (name p (codes "contains")) ≡ Some (stand (frame ∷ outer) (to_left ors ands) all (m.contains xs))
+contains_leads ors ands all p After.after_none = refl
+contains_leads ors ands all p (After.after_step (AtStep.at_step last)) = refl
+contains_leads ors ands all p (After.after_step AtStep.at_not) = refl
+
+pub bar_leads : {frame : Frame} {outer : List Frame} {xs : List form.Step} {stage : Stage} (ors ands : List form.Condition) (i : Ignoring) (all : List Inside) (p : Spot) → After (frame ∷ outer) xs stage
+    → advance_inner (stand (frame ∷ outer) (ignored ors ands i) all stage) (at p S.VerticalBar) ≡ Some (stand (frame ∷ outer) (ignored ors ands (with_path i xs)) all m.path_wanted)
+bar_leads ors ands i all p After.after_none = refl
+bar_leads ors ands i all p (After.after_step (AtStep.at_step last)) = refl
+bar_leads ors ands i all p (After.after_step AtStep.at_not) = refl
+
+-- where the steps of a condition begin, and those of an ignored path
+pub data AtRel : Stage → Type 0 where
+  wanted : (first : Bool) → AtRel (m.wanted first)
+  path_wanted : AtRel m.path_wanted
+
+pub period_leads : {stage : Stage} (frame : Frame) (outer : List Frame) (joint : Joint) (all : List Inside) (p : Spot) → AtRel stage
+    → advance_inner (stand (frame ∷ outer) joint all stage) (at p S.Period) ≡ Some (stand (frame ∷ outer) joint all m.no_step)
+period_leads frame outer joint all p (AtRel.wanted first) = refl
+period_leads frame outer joint all p AtRel.path_wanted = refl
 
 -- where a condition is whole: what ends it stands after it
 pub record Ends (frame : Frame) (outer : List Frame) (joint : Joint) (c : form.Condition) (all : List Inside) (t : Inner) : Type 0 where
@@ -104,7 +119,7 @@ pub record Ends (frame : Frame) (outer : List Frame) (joint : Joint) (c : form.C
   pub frames_are : t.frames ≡ frame ∷ outer
 
 after_takes : {frame : Frame} {outer : List Frame} {xs : List form.Step} {stage : Stage} (joint : Joint) (all : List Inside) → After (frame ∷ outer) xs stage → (p : Spot) (z : Symbol) → Follower z
-    → advance_inner (stand (frame ∷ outer) joint all stage) (at p z) ≡ m.joint_next (frame ∷ outer) joint (form.exists (steps xs)) all z
+    → advance_inner (stand (frame ∷ outer) joint all stage) (at p z) ≡ m.joint_next (frame ∷ outer) joint (steps_condition joint.ignoring xs) all z
 after_takes joint all After.after_none p z Follower.close_bracket = refl
 after_takes joint all After.after_none p z Follower.close_parenthesis = refl
 after_takes joint all After.after_none p z Follower.and = refl
@@ -119,8 +134,20 @@ after_takes joint all (After.after_step AtStep.at_not) p z Follower.and = refl
 after_takes joint all (After.after_step AtStep.at_not) p z Follower.or = refl
 
 pub after_ends : {frame : Frame} {outer : List Frame} {xs : List form.Step} {stage : Stage} (joint : Joint) (all : List Inside) → After (frame ∷ outer) xs stage
-    → Ends frame outer joint (form.exists (steps xs)) all (stand (frame ∷ outer) joint all stage)
+    → Ends frame outer joint (steps_condition joint.ignoring xs) all (stand (frame ∷ outer) joint all stage)
 after_ends joint all a = record { takes = after_takes joint all a; frames_are = refl }
+
+-- what ends an ignored path ends the condition to which it belongs
+ignored_takes : {frame : Frame} {outer : List Frame} {xs : List form.Step} {stage : Stage} (ors ands : List form.Condition) (i : Ignoring) (all : List Inside) → After (frame ∷ outer) xs stage → (p : Spot) (z : Symbol) → Follower z
+    → advance_inner (stand (frame ∷ outer) (ignored ors ands i) all stage) (at p z) ≡ m.joint_next (frame ∷ outer) (to_left ors ands) (steps_condition (Some i) xs) all z
+ignored_takes ors ands i all a p z Follower.close_bracket = after_takes (ignored ors ands i) all a p z Follower.close_bracket
+ignored_takes ors ands i all a p z Follower.close_parenthesis = after_takes (ignored ors ands i) all a p z Follower.close_parenthesis
+ignored_takes ors ands i all a p z Follower.and = after_takes (ignored ors ands i) all a p z Follower.and
+ignored_takes ors ands i all a p z Follower.or = after_takes (ignored ors ands i) all a p z Follower.or
+
+pub ignored_ends : {frame : Frame} {outer : List Frame} {xs : List form.Step} {stage : Stage} (ors ands : List form.Condition) (i : Ignoring) (all : List Inside) → After (frame ∷ outer) xs stage
+    → Ends frame outer (to_left ors ands) (steps_condition (Some i) xs) all (stand (frame ∷ outer) (ignored ors ands i) all stage)
+ignored_ends ors ands i all a = record { takes = ignored_takes ors ands i all a; frames_are = refl }
 
 pub ended_ends : (frame : Frame) (outer : List Frame) (joint : Joint) (c : form.Condition) (all : List Inside) → Ends frame outer joint c all (stand (frame ∷ outer) joint all (m.ended c))
 ended_ends frame outer joint c all = record { takes = λ p z f. refl; frames_are = refl }

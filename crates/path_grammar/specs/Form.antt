@@ -29,12 +29,17 @@ mutual
     -- `@n`, `@n = "v"`
     attribute : List ℕ → Option (List ℕ) → Condition
     exists : Steps → Condition
-    -- the number of the selection, from 0
-    contains : Steps → ℕ → Condition
+    -- the number of the selection, from 0, and the paths whose elements are ignored
+    contains : Steps → ℕ → Paths → Condition
 
   pub data Conditions : Type 0 where
     no_conditions : Conditions
     condition_then : Condition → Conditions → Conditions
+
+  -- paths from an element
+  pub data Paths : Type 0 where
+    no_paths : Paths
+    path_then : Steps → Paths → Paths
 
 pub record Path : Type 0 where
   pub root : PathRoot
@@ -52,6 +57,10 @@ predicates (x ∷ xs) = predicate_then x (predicates xs)
 abbrev pub conditions : List Condition → Conditions
 conditions [] = no_conditions
 conditions (x ∷ xs) = condition_then x (conditions xs)
+
+abbrev pub paths : List Steps → Paths
+paths [] = no_paths
+paths (x ∷ xs) = path_then x (paths xs)
 
 -- conditions joined by `or` or `and`: one alone is itself
 abbrev pub joined : (Conditions → Condition) → List Condition → Condition

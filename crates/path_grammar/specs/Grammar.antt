@@ -11,7 +11,7 @@ use Rattle.path_grammar.specs.declared.path.NameTest.TheVariants as T
 use Rattle.path_grammar.specs.declared.path.PathRoot.{PathRoot}
 use Rattle.path_grammar.specs.declared.path.PathRoot.TheVariants as R
 use Rattle.path_grammar.specs.Form as form
-use Rattle.path_grammar.specs.Form.{steps, predicates, joined, or_of, and_of}
+use Rattle.path_grammar.specs.Form.{steps, predicates, paths, no_paths, joined, or_of, and_of}
 
 -- a selection inside a path, with its symbols
 pub record Inside : Type 0 where
@@ -82,7 +82,7 @@ mutual
     further_and : {n : ℕ} {u v : List Placed} {xs : List form.Condition} {x : form.Condition} {ss tt : List Inside}
         → Ands n u xs ss → (p : Spot) → Primary (n + length ss) v x tt → Ands n (u ++ name p (codes "and") ∷ v) (xs ++ x ∷ []) (ss ++ tt)
 
-  -- PPrim ::= "not" "(" POr ")" | "(" POr ")" | "@" Name ("=" String)? | Rel ("contains" "text" Selection)?
+  -- PPrim ::= "not" "(" POr ")" | "(" POr ")" | "@" Name ("=" String)? | Rel ("contains" "text" Selection ("without" "content" Rels)?)?
   pub data Primary : ℕ → List Placed → form.Condition → List Inside → Type 0 where
     negated : {n : ℕ} {u : List Placed} {xs : List form.Condition} {ss : List Inside} (p q : Spot) → Ors n u xs ss → (r : Spot)
         → Primary n (name p (codes "not") ∷ at q S.OpenParenthesis ∷ u ++ at r S.CloseParenthesis ∷ []) (form.not_of (joined or_of xs)) ss
@@ -93,7 +93,17 @@ mutual
         → Primary n (at p S.At ∷ name q s ∷ at r S.Equals ∷ string t value ∷ []) (form.attribute s (Some value)) []
     exists : {n : ℕ} {u : List Placed} {xs : List form.Step} {ss : List Inside} → Rel n u xs ss → Primary n u (form.exists (steps xs)) ss
     contains : {n : ℕ} {u v : List Placed} {xs : List form.Step} {ss : List Inside} {x : Tree} → Rel n u xs ss → (p q : Spot) → Selection v x
-        → Primary n (u ++ name p (codes "contains") ∷ name q (codes "text") ∷ v) (form.contains (steps xs) (n + length ss)) (ss ++ inside v x ∷ [])
+        → Primary n (u ++ name p (codes "contains") ∷ name q (codes "text") ∷ v) (form.contains (steps xs) (n + length ss) no_paths) (ss ++ inside v x ∷ [])
+    without : {n : ℕ} {u v w : List Placed} {xs : List form.Step} {ys : List form.Steps} {ss tt : List Inside} {x : Tree} → Rel n u xs ss → (p q : Spot) → Selection v x
+        → (r t : Spot) → Rels (n + length (ss ++ inside v x ∷ [])) w ys tt
+        → Primary n (u ++ name p (codes "contains") ∷ name q (codes "text") ∷ v ++ name r (codes "without") ∷ name t (codes "content") ∷ w)
+        (form.contains (steps xs) (n + length ss) (paths ys)) (ss ++ inside v x ∷ [] ++ tt)
+
+  -- Rels ::= Rel ("|" Rel)*
+  pub data Rels : ℕ → List Placed → List form.Steps → List Inside → Type 0 where
+    first_rel : {n : ℕ} {u : List Placed} {xs : List form.Step} {ss : List Inside} → Rel n u xs ss → Rels n u (steps xs ∷ []) ss
+    further_rel : {n : ℕ} {u v : List Placed} {ys : List form.Steps} {xs : List form.Step} {ss tt : List Inside}
+        → Rels n u ys ss → (p : Spot) → Rel (n + length ss) v xs tt → Rels n (u ++ at p S.VerticalBar ∷ v) (ys ++ steps xs ∷ []) (ss ++ tt)
 
   -- Rel ::= "." Step* | Test Pred* Step*
   pub data Rel : ℕ → List Placed → List form.Step → List Inside → Type 0 where

@@ -2,9 +2,9 @@
 use Rattle.std.specs.Prelude.{ℕ, suc, max, ◌≤◌, List, [], ◌∷◌, ◌++◌}
 use Rattle.selection_grammar.specs.declared.symbol.Placed.{Placed}
 use Rattle.path_grammar.specs.Form as form
-use Rattle.path_grammar.specs.Grammar.{Inside, Step, Steps, Predicate, Predicates, Ors, Ands, Primary, Rel, Path, step, no_step, further_step}
+use Rattle.path_grammar.specs.Grammar.{Inside, Step, Steps, Predicate, Predicates, Ors, Ands, Primary, Rels, Rel, Path, step, no_step, further_step}
 use Rattle.path_grammar.specs.Grammar.{number, holds, no_predicate, further_predicate, first_or, further_or, first_and, further_and}
-use Rattle.path_grammar.specs.Grammar.{negated, parentheses, attribute, valued, exists, contains, itself, some_child, path, Begins}
+use Rattle.path_grammar.specs.Grammar.{negated, parentheses, attribute, valued, exists, contains, without, first_rel, further_rel, itself, some_child, path, Begins}
 
 abbrev mutual
   pub step_levels : {n : ℕ} {u : List Placed} {x : form.Step} {ss : List Inside} → Step n u x ss → ℕ
@@ -37,6 +37,11 @@ abbrev mutual
   primary_levels (valued p q r t s value) = 0
   primary_levels (exists xs) = rel_levels xs
   primary_levels (contains xs p q selection) = rel_levels xs
+  primary_levels (without xs p q selection r t ys) = max (rel_levels xs) (rels_levels ys)
+
+  pub rels_levels : {n : ℕ} {u : List Placed} {ys : List form.Steps} {ss : List Inside} → Rels n u ys ss → ℕ
+  rels_levels (first_rel xs) = rel_levels xs
+  rels_levels (further_rel ys p xs) = max (rels_levels ys) (rel_levels xs)
 
   pub rel_levels : {n : ℕ} {u : List Placed} {xs : List form.Step} {ss : List Inside} → Rel n u xs ss → ℕ
   rel_levels (itself p xs) = steps_levels xs

@@ -3,4 +3,5 @@ pub mod View
 pub mod Grammar
 pub mod Levels
 pub mod Spellings
+pub mod Without
 pub mod steps

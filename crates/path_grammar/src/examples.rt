@@ -3,8 +3,10 @@
 mod machine;
 mod spelled;
 
-pub use machine::{read_and_not, read_names, read_number, read_selections};
+pub use machine::{
+    ignored_paths, read_and_not, read_names, read_number, read_selections, read_without,
+};
 pub use spelled::{
     begun_by_a_root, selection_places, spelled_and_not, spelled_keywords, spelled_number,
-    spelled_selections,
+    spelled_selections, spelled_without,
 };

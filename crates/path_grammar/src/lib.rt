@@ -7,4 +7,7 @@ pub mod examples;
 pub mod laws;
 mod path;
 
-pub use path::{Condition, NameTest, Path, PathRoot, Predicate, Predicates, Step, Steps};
+pub use path::{
+    Condition, NameTest, Path, PathRoot, Predicate, Predicates, RelativePath, RelativePaths, Step,
+    Steps,
+};

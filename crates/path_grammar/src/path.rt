@@ -27,6 +27,16 @@ pub enum NameTest {
 /// Steps, one after the other.
 pub type Steps = Items<Step>;
 
+/// A path from an element: its steps.
+#[cycle(path)]
+#[derive(Drop)]
+pub struct RelativePath {
+    pub steps: Steps,
+}
+
+/// Paths from an element, in the order of the text.
+pub type RelativePaths = Items<RelativePath>;
+
 /// A step to the children of an element or, where it is deep, to all elements below it.
 #[cycle(path)]
 #[derive(Drop)]
@@ -60,10 +70,17 @@ pub enum Condition {
     And(Items<Condition>),
     Not(Box<Condition>),
     /// The element has the attribute and, where a value is written, that value.
-    Attribute { name: Line, value: Option<Line> },
+    Attribute {
+        name: Line,
+        value: Option<Line>,
+    },
     /// The steps from the element lead to some element.
     Exists(Steps),
-    /// Some element to which the steps lead satisfies the selection of this number. The selections of a path are
-    /// numbered from 0 in the order of its text.
-    Contains { steps: Steps, selection: usize },
+    /// Some element to which the steps lead satisfies the selection of this number, when what the ignored paths lead to
+    /// is taken out of it. The selections of a path are numbered from 0 in the order of its text.
+    Contains {
+        steps: Steps,
+        selection: usize,
+        ignored: RelativePaths,
+    },
 }

@@ -14,29 +14,29 @@ use mathlib.Core.Bool.{and-true, and-false}
 use Rattle.path_meaning.proofs.Lists.{filter-true, filter-filter, filter-alike, list_any-filter, list_any-alike, list_any-and}
 
 -- whether all conditions are true of an element
-abbrev pub meets : (ℕ → Element → Bool) → List Element → List Condition → Element → Bool
+abbrev pub meets : (ℕ → List Element → Element → Bool) → List Element → List Condition → Element → Bool
 meets satisfies all conditions e = list_all (λ c. is_true satisfies all c e) conditions
 
-by_conditions : (satisfies : ℕ → Element → Bool) (all : List Element) (conditions : List Condition) (items : List Element)
+by_conditions : (satisfies : ℕ → List Element → Element → Bool) (all : List Element) (conditions : List Condition) (items : List Element)
     → filtered satisfies all (predicates (map holds conditions)) items ≡ filter (meets satisfies all conditions) items
 unfolding filtered filtered_by
 by_conditions satisfies all [] items = sym (filter-true items)
 by_conditions satisfies all (c ∷ conditions) items =
     by_conditions satisfies all conditions (filter (is_true satisfies all c) items) ∙ filter-filter (is_true satisfies all c) (meets satisfies all conditions) items
 
-abbrev pub wanted : (ℕ → Element → Bool) → List Element → NameTest → List Condition → Element → Bool
+abbrev pub wanted : (ℕ → List Element → Element → Bool) → List Element → NameTest → List Condition → Element → Bool
 wanted satisfies all test conditions e = is_named test e.node && meets satisfies all conditions e
 
-abbrev pub kept : (ℕ → Element → Bool) → List Element → NameTest → List Condition → List Element → List Element
+abbrev pub kept : (ℕ → List Element → Element → Bool) → List Element → NameTest → List Condition → List Element → List Element
 kept satisfies all test conditions items = filtered satisfies all (predicates (map holds conditions)) (filter (λ e. is_named test e.node) items)
 
-kept_wanted : (satisfies : ℕ → Element → Bool) (all : List Element) (test : NameTest) (conditions : List Condition) (items : List Element)
+kept_wanted : (satisfies : ℕ → List Element → Element → Bool) (all : List Element) (test : NameTest) (conditions : List Condition) (items : List Element)
     → kept satisfies all test conditions items ≡ filter (wanted satisfies all test conditions) items
 kept_wanted satisfies all test conditions items =
     by_conditions satisfies all conditions (filter (λ e. is_named test e.node) items) ∙ filter-filter (λ e. is_named test e.node) (meets satisfies all conditions) items
 
 -- an element is in a step's list where an item that is offered is wanted and is the same
-module _ (satisfies : ℕ → Element → Bool) (all : List Element) (test : NameTest) (conditions : List Condition) where
+module _ (satisfies : ℕ → List Element → Element → Bool) (all : List Element) (test : NameTest) (conditions : List Condition) where
   abbrev p : Element → Bool
   p = wanted satisfies all test conditions
 
@@ -83,7 +83,7 @@ wanted_alone root p e he h =
     ∙ ap (λ b. p e && b) h
     ∙ and-true (p e)
 
-pub deep_step : (satisfies : ℕ → Element → Bool) (test : NameTest) (conditions : List Condition) (root : Node)
+pub deep_step : (satisfies : ℕ → List Element → Element → Bool) (test : NameTest) (conditions : List Condition) (root : Node)
     → selected satisfies (steps (step true test (predicates (map holds conditions)) ∷ [])) root
     ≡ filter (λ e. is_named test e.node && list_all (λ c. is_true satisfies (elements root) c e) conditions) (elements root)
 unfolding selected stepped led

@@ -85,7 +85,7 @@ mutual
       (ordered-from (above ++ number ∷ []) node) (ordered-below above (number + 1) rest)
       (λ k d within i c inside. earlier above number (slice_index_or (elements_from (above ++ number ∷ []) node) k d) (slice_index_or (elements_below above (number + 1) rest) i c) (from (above ++ number ∷ []) node k d within) (under above (number + 1) rest i c inside))
 
-pub selected_in_order : (satisfies : ℕ → Element → Bool) (path : Steps) (root : Node) → AllPairs Before (selected satisfies path root)
+pub selected_in_order : (satisfies : ℕ → List Element → Element → Bool) (path : Steps) (root : Node) → AllPairs Before (selected satisfies path root)
 selected_in_order satisfies path root =
     let part = selected-part satisfies path root in
     subst (AllPairs Before) (sym part.1) (AllPairs-filter Before part.0 (elements root) (ordered-from [] root))

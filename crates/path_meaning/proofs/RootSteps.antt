@@ -23,7 +23,7 @@ root_alone p root kids =
     ap (λ b. cond b (e ∷ filter (λ x. p e && is_same x e) (elements_below [] 1 kids)) (filter (λ x. p e && is_same x e) (elements_below [] 1 kids))) (and-true (p e))
     ∙ ap (λ rest. cond (p e) (e ∷ rest) rest) others
 
-pub root_step : (satisfies : ℕ → Element → Bool) (test : NameTest) (conditions : List Condition) (root : Node)
+pub root_step : (satisfies : ℕ → List Element → Element → Bool) (test : NameTest) (conditions : List Condition) (root : Node)
     → selected satisfies (steps (step false test (predicates (map holds conditions)) ∷ [])) root
     ≡ filter (λ e. is_named test e.node && list_all (λ c. is_true satisfies (elements root) c e) conditions) (element_at [] root)
 unfolding selected stepped led

@@ -9,18 +9,18 @@ use Rattle.path_meaning.proofs.Lists.{filter-none}
 abbrev pub Part : List Element → List Element → Type 0
 Part all some = (p : Element → Bool) × (some ≡ filter p all)
 
-stepped-part : (satisfies : ℕ → Element → Bool) (all : List Element) (s : Step) (contexts : List Context) → Part all (stepped satisfies all s contexts)
+stepped-part : (satisfies : ℕ → List Element → Element → Bool) (all : List Element) (s : Step) (contexts : List Context) → Part all (stepped satisfies all s contexts)
 unfolding stepped
 stepped-part satisfies all (step deep test predicates) contexts =
     (is_in (map (λ items. filtered satisfies all predicates (filter (λ e. is_named test e.node) items)) (flat_map (lists deep) contexts)), refl)
 
-led-part : (satisfies : ℕ → Element → Bool) (all : List Element) (rest : Steps) (items : List Element) → Part all items → Part all (led satisfies all rest items)
+led-part : (satisfies : ℕ → List Element → Element → Bool) (all : List Element) (rest : Steps) (items : List Element) → Part all items → Part all (led satisfies all rest items)
 unfolding led
 led-part satisfies all no_steps items part = part
 led-part satisfies all (step_then s rest) items part =
     led-part satisfies all rest (stepped satisfies all s (map item items)) (stepped-part satisfies all s (map item items))
 
-pub selected-part : (satisfies : ℕ → Element → Bool) (path : Steps) (root : Node) → Part (elements root) (selected satisfies path root)
+pub selected-part : (satisfies : ℕ → List Element → Element → Bool) (path : Steps) (root : Node) → Part (elements root) (selected satisfies path root)
 unfolding selected
 selected-part satisfies no_steps root = ((λ e. false), sym (filter-none (elements root)))
 selected-part satisfies (step_then first rest) root =

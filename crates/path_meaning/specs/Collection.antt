@@ -26,5 +26,5 @@ documents Collection collection = collection
 documents (Doc name) collection = filter (λ d. bytes_eq name d.name) collection
 
 -- the elements that a path selects, document by document
-abbrev pub nodes : (ℕ → Element → Bool) → Path → List Named → List Found
+abbrev pub nodes : (ℕ → List Element → Element → Bool) → Path → List Named → List Found
 nodes satisfies path collection = flat_map (λ d. map (found_in d.name) (selected satisfies path.steps d.root)) (documents path.root collection)

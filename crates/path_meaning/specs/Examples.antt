@@ -1,44 +1,50 @@
 -- Documents and paths for examples.
-use Rattle.std.specs.Prelude.{ℕ, ◌==◌, nat_eq, Bool, false, ◌&&◌, ◌||◌, List, [], ◌∷◌, ◌++◌, map, codes}
-use Rattle.std.specs.List.{starts_with}
+use Rattle.std.specs.Prelude.{ℕ, ◌+◌, ◌==◌, nat_eq, Bool, false, ◌&&◌, ◌||◌, List, [], ◌∷◌, ◌++◌, map, codes, if◌then◌else◌}
+use Rattle.std.specs.List.{list_any, starts_with}
 use Rattle.plain_tree.specs.Document.{Node, element, text, Nodes, no_nodes, node_then, nodes}
-use Rattle.path_meaning.specs.Elements.{Element}
-use Rattle.path_grammar.specs.Form.{Step, steps}
-use Rattle.path_meaning.specs.Meaning.{selected}
+use Rattle.path_meaning.specs.Elements.{Element, elements, placed}
+use Rattle.path_grammar.specs.Form.{Step, Steps, steps, paths}
+use Rattle.path_meaning.specs.Meaning.{ignored, selected}
 use Rattle.path_meaning.specs.Tests.{selected_tests}
 
 abbrev pub elem : List ℕ → List Node → Node
 elem name kids = element name [] (nodes kids)
 
--- the texts of a node, one after the other
+-- the texts of the node at a place, one after the other, but for those in ignored elements
 abbrev mutual
-  pub text_of : Node → List ℕ
-  text_of (element name attributes kids) = text_of_all kids
-  text_of (text bytes) = bytes
+  pub text_without : List Element → List ℕ → Node → List ℕ
+  text_without ignored place (element name attributes kids) =
+      if list_any (λ e. starts_with nat_eq place e.place) ignored then [] else texts_without ignored place 1 kids
+  text_without ignored place (text bytes) = bytes
 
-  pub text_of_all : Nodes → List ℕ
-  text_of_all no_nodes = []
-  text_of_all (node_then node rest) = text_of node ++ text_of_all rest
+  pub texts_without : List Element → List ℕ → ℕ → Nodes → List ℕ
+  texts_without ignored above number no_nodes = []
+  texts_without ignored above number (node_then node rest) =
+      text_without ignored (above ++ number ∷ []) node ++ texts_without ignored above (number + 1) rest
 
 -- whether bytes stand somewhere in others
 abbrev pub stand_in : List ℕ → List ℕ → Bool
 stand_in wanted [] = false
 stand_in wanted (byte ∷ rest) = starts_with nat_eq (byte ∷ rest) wanted || stand_in wanted rest
 
--- an element satisfies the selection 0 where these bytes stand in its texts
-abbrev pub has_text : List ℕ → ℕ → Element → Bool
-has_text wanted selection e = selection == 0 && stand_in wanted (text_of e.node)
+-- an element satisfies the selection 0 where these bytes stand in its texts, but for those that are ignored
+abbrev pub has_text : List ℕ → ℕ → List Element → Element → Bool
+has_text wanted selection ignored e = selection == 0 && stand_in wanted (text_without ignored e.place e.node)
 
 -- no element satisfies any selection
-abbrev pub nothing : ℕ → Element → Bool
-nothing selection e = false
+abbrev pub nothing : ℕ → List Element → Element → Bool
+nothing selection ignored e = false
 
 -- the places of the elements that steps select
-abbrev pub places : (ℕ → Element → Bool) → List Step → Node → List (List ℕ)
+abbrev pub places : (ℕ → List Element → Element → Bool) → List Step → Node → List (List ℕ)
 places satisfies path root = map (λ e. e.place) (selected satisfies (steps path) root)
 
+-- the places of the elements to which paths lead from the root
+abbrev pub ignored_places : (ℕ → List Element → Element → Bool) → List Steps → Node → List (List ℕ)
+ignored_places satisfies ignoring root = map (λ e. e.place) (ignored satisfies (elements root) (paths ignoring) (placed [] root))
+
 -- the pairs of a selection and a place that steps ask for
-abbrev pub tested_places : (ℕ → Element → Bool) → List Step → Node → List (ℕ × List ℕ)
+abbrev pub tested_places : (ℕ → List Element → Element → Bool) → List Step → Node → List (ℕ × List ℕ)
 tested_places satisfies path root = map (λ t. (t.selection, t.element.place)) (selected_tests satisfies (steps path) root)
 
 -- `<a><b>x</b><b>y</b><c><b>x y</b></c></a>`

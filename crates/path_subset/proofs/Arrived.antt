@@ -75,7 +75,7 @@ module _ (bad : Option ℕ) (size : ℕ) (rest : List Placed) (p : Placed) (u : 
   through : (root : PathRoot) (i : Inner) (before : List form.Step) → m.advance s p ≡ Some (m.along root i) → before_selection_at i.stage ≡ Some before → IsReadAmong u rest bad size → There
   through root i before a b (x, n, e, few) =
       let run = whole_read (u ++ rest) bad size x n e in
-      on n (m.along root (stand i.frames i.joint i.selections (m.ended (form.contains (steps before) (length all))))) (m.along root (stand i.frames i.joint all (m.selecting before (take n (u ++ rest)) run.shape)))
+      on n (m.along root (stand i.frames i.joint i.selections (m.selected before (length all)))) (m.along root (stand i.frames i.joint all (m.selecting before (take n (u ++ rest)) run.shape)))
       (all ++ inside (take n (u ++ rest)) run.selects.tree ∷ []) (found ++ placed_form x (take n (u ++ rest)) ∷ []) few
       (Stands.ended root i.frames i.joint i.selections all before (take n (u ++ rest)) run.selects.tree run.shape (drop n (u ++ rest)) run.ends run.stops)
       (E.further each (inside (take n (u ++ rest)) run.selects.tree) x run.selects)
@@ -83,7 +83,7 @@ module _ (bad : Option ℕ) (size : ℕ) (rest : List Placed) (p : Placed) (u : 
       ∙ selecting_run root i.frames i.joint all before (take n (u ++ rest)) [] (Shape.whole selection.start) run.shape run.reads)
       (one_read s (m.along root i) found p (u ++ rest) bad size (Some before) below a b
       ∙ ap (λ z. further (after_run (m.along root i) found before (u ++ rest) z) (λ l. read_from l.state l.selections l.count (u ++ rest) bad size)) e
-      ∙ ap (λ c. read_from (m.along root (stand i.frames i.joint i.selections (m.ended (form.contains (steps before) c)))) (found ++ placed_form x (take n (u ++ rest)) ∷ []) n (u ++ rest) bad size) (counted each))
+      ∙ ap (λ c. read_from (m.along root (stand i.frames i.joint i.selections (m.selected before c))) (found ++ placed_form x (take n (u ++ rest)) ∷ []) n (u ++ rest) bad size) (counted each))
 
   by_selection : (t : m.State) (o : Option (List form.Step)) → before_selection t ≡ o → m.advance s p ≡ Some t → There
   by_selection t None b a =

@@ -13,7 +13,7 @@ use Rattle.selection_grammar.specs.steps.Machine as selection
 use Rattle.selection_grammar.specs.Shapes.{Shape}
 use Rattle.selection_grammar.specs.Tree.{Tree}
 use Rattle.path_grammar.specs.Form as form
-use Rattle.path_grammar.specs.Grammar.{Inside, Path, Begins}
+use Rattle.path_grammar.specs.Grammar.{Inside, inside, Path, Begins}
 use Rattle.path_grammar.specs.Levels.{levels, BeginsWithin, OpensTooDeep}
 use Rattle.path_grammar.specs.steps.Machine as m
 use Rattle.path_grammar.specs.steps.Machine.{Joint, Frame, Stage, Inner, State, stand, advance, run_on, read, open_count, most_open, most_open_on}
@@ -22,6 +22,7 @@ use Rattle.path_grammar.proofs.Completed as completed
 use Rattle.path_grammar.proofs.Depths as depths
 use Rattle.path_grammar.proofs.Depths.{levels_most, begins_within, read_within, opened}
 use Rattle.path_grammar.proofs.Growing.{grows_by}
+use Rattle.path_grammar.proofs.Primaries.{leads_by}
 use Rattle.path_subset.specs.Limits.{opens, exceeds, goes_on, goes_on_at, WithinFrom, Within, AreNumbersWithin}
 
 -- what opens a bracket or a parenthesis outside of selections opens just one
@@ -31,18 +32,26 @@ joint_none (frame ∷ outer) joint c all S.OpenBracket e = refl
 joint_none (frame ∷ outer) joint c all S.OpenParenthesis e = refl
 joint_none (frame ∷ outer) joint c all other e = cc
 
-selection_none : (frames : List Frame) (joint : Joint) (all : List Inside) (before : List form.Step) (w v : List Placed) (z : Symbol) (o : Option (Shape selection.State)) (x : Option Tree) (next : Inner) → opens z ≡ true → is_some o ≡ false
-    → m.otherwise (m.selecting_next frames joint all before v o) (m.after_next frames joint (m.selected all before w x) z) ≡ Some next → ⊥
-selection_none frames joint all before w v z (Some shape) x next h g e = cc
-selection_none frames joint all before w v z None None next h g e = cc
-selection_none frames joint all before w v z None (Some tree) next h g e = let two : None ≡ Some next = sym (joint_none frames joint (form.contains (form.steps before) (length all)) _ z h) ∙ e in cc
+without_none : (frames : List Frame) (joint : Joint) (all : List Inside) (before : List form.Step) (k : ℕ) (z : Symbol) → opens z ≡ true → m.without_next frames joint all before k z ≡ None
+without_none frames joint all before k S.OpenBracket e = refl
+without_none frames joint all before k S.OpenParenthesis e = refl
+without_none frames joint all before k other e = cc
+
+selection_none : (frames : List Frame) (joint : Joint) (all : List Inside) (before : List form.Step) (w : List Placed) (p : Placed) (o : Option (Shape selection.State)) (x : Option Tree) (next : Inner) → opens p.symbol ≡ true → is_some o ≡ false
+    → leads_by frames joint all before w p o x ≡ Some next → ⊥
+selection_none frames joint all before w p (Some shape) x next h g e = cc
+selection_none frames joint all before w p None None next h g e = cc
+selection_none frames joint all before w p None (Some tree) next h g e =
+    let two : None ≡ Some next =
+    sym (ap (λ o. m.otherwise o (m.joint_next frames joint (form.contains (form.steps before) (length all) form.no_paths) (all ++ inside w tree ∷ []) p.symbol)) (without_none frames joint (all ++ inside w tree ∷ []) before (length all) p.symbol h)
+    ∙ joint_none frames joint (form.contains (form.steps before) (length all) form.no_paths) (all ++ inside w tree ∷ []) p.symbol h) ∙ e in cc
 
 counted : (s t : Inner) → ◌≡◌ {A = Option Inner} (Some s) (Some t) → length t.frames ≡ length s.frames
 counted s t e = let same : s ≡ t = cc in ap (λ (i : Inner). length i.frames) (sym same)
 
 bracket_opens : (q : Spot) (frames : List Frame) (joint : Joint) (all : List Inside) (stage : Stage) (next : Inner) → goes_on_at stage (at q S.OpenBracket) ≡ false
     → m.advance_inner (stand frames joint all stage) (at q S.OpenBracket) ≡ Some next → length next.frames ≡ suc (length frames)
-bracket_opens q frames joint all (m.selecting before w shape) next g e = absurd (selection_none frames joint all before w (w ++ at q S.OpenBracket ∷ []) S.OpenBracket (selection.advance shape (at q S.OpenBracket)) (selection.finished_at shape) next refl g e)
+bracket_opens q frames joint all (m.selecting before w shape) next g e = absurd (selection_none frames joint all before w (at q S.OpenBracket) (selection.advance shape (at q S.OpenBracket)) (selection.finished_at shape) next refl g e)
 bracket_opens q frames joint all (m.stepped last) next g e = counted _ next e
 bracket_opens q frames joint all m.not_name next g e = counted _ next e
 bracket_opens q [] joint all other next g e = cc
@@ -51,7 +60,7 @@ bracket_opens q (frame ∷ outer) joint all other next g e = cc
 parenthesis_opens : (q : Spot) (frames : List Frame) (joint : Joint) (all : List Inside) (stage : Stage) (next : Inner) → goes_on_at stage (at q S.OpenParenthesis) ≡ false
     → m.advance_inner (stand frames joint all stage) (at q S.OpenParenthesis) ≡ Some next → length next.frames ≡ suc (length frames)
 parenthesis_opens q frames joint all (m.selecting before w shape) next g e =
-    absurd (selection_none frames joint all before w (w ++ at q S.OpenParenthesis ∷ []) S.OpenParenthesis (selection.advance shape (at q S.OpenParenthesis)) (selection.finished_at shape) next refl g e)
+    absurd (selection_none frames joint all before w (at q S.OpenParenthesis) (selection.advance shape (at q S.OpenParenthesis)) (selection.finished_at shape) next refl g e)
 parenthesis_opens q frames joint all (m.wanted first) next g e = counted _ next e
 parenthesis_opens q frames joint all m.not_name next g e = counted _ next e
 parenthesis_opens q [] joint all other next g e = cc
@@ -84,13 +93,13 @@ selecting_keeps : (s next : State) (p : Placed) → goes_on s p ≡ true → adv
 selecting_keeps (m.at_root stage) next p g e = cc
 selecting_keeps (m.along root s) next p g e = by_stage s.stage refl
   where
-    by_shape : (before : List form.Step) (w : List Placed) (o : Option (Shape selection.State)) (x : Option Inner) → is_some o ≡ true → m.along_to root (m.otherwise (m.selecting_next s.frames s.joint s.selections before w o) x) ≡ Some next → open_count next ≡ length s.frames
+    by_shape : (before : List form.Step) (w : List Placed) (o : Option (Shape selection.State)) (x : Option Tree) → is_some o ≡ true → m.along_to root (leads_by s.frames s.joint s.selections before w p o x) ≡ Some next → open_count next ≡ length s.frames
     by_shape before w None x h k = cc
-    by_shape before w (Some shape) x h k = let same : m.along root (stand s.frames s.joint s.selections (m.selecting before w shape)) ≡ next = cc in ap open_count (sym same)
+    by_shape before w (Some shape) x h k = let same : m.along root (stand s.frames s.joint s.selections (m.selecting before (w ++ p ∷ []) shape)) ≡ next = cc in ap open_count (sym same)
 
     by_stage : (stage : Stage) → s.stage ≡ stage → open_count next ≡ length s.frames
     by_stage (m.selecting before w shape) k =
-        by_shape before (w ++ p ∷ []) (selection.advance shape p) (m.after_next s.frames s.joint (m.condition_at s.selections (m.selecting before w shape)) p.symbol)
+        by_shape before w (selection.advance shape p) (selection.finished_at shape)
         (sym (ap (λ z. goes_on_at z p) k) ∙ g)
         (sym (ap (λ z. m.along_to root (m.advance_inner (stand s.frames s.joint s.selections z) p)) k) ∙ e)
     by_stage other k = let two : true ≡ false = sym g ∙ ap (λ z. goes_on_at z p) k in cc

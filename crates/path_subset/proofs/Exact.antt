@@ -16,13 +16,13 @@ use Rattle.ft_parser.proofs.SelectedExact.{selects_read}
 use Rattle.ft_parser.proofs.SelectedLaws.{rest_read}
 use Rattle.path_grammar.specs.declared.path.PathRoot.{PathRoot}
 use Rattle.path_grammar.specs.Form as form
-use Rattle.path_grammar.specs.Form.{steps}
 use Rattle.path_grammar.specs.Grammar.{Inside, inside, Path, Begins}
 use Rattle.path_grammar.specs.steps.Machine as m
 use Rattle.path_grammar.specs.steps.Machine.{Joint, Frame, Stage, Inner, stand}
 use Rattle.path_grammar.proofs.Begun.{one_path, read-append}
 use Rattle.path_grammar.proofs.Completed as completed
 use Rattle.path_grammar.proofs.Given.{given, same_selections}
+use Rattle.path_grammar.proofs.Primaries.{leads_by}
 use Rattle.path_subset.specs.Answer.{path_read}
 use Rattle.path_subset.specs.Paths.{PlacedForm, placed_form, PathForm, path_form, extent_of}
 use Rattle.path_subset.specs.declared.path.Extent.{Extent}
@@ -30,7 +30,7 @@ use Rattle.path_subset.specs.Refused as R
 use Rattle.path_subset.specs.Refused.{Refuses, WantSelection, IsFaultOf}
 use Rattle.path_subset.specs.Spelled as E
 use Rattle.path_subset.specs.Spelled.{Each, SpellsPath}
-use Rattle.path_subset.proofs.Everywhere.{with_all, with_these, joint_same, advance_same}
+use Rattle.path_subset.proofs.Everywhere.{with_all, with_these, advance_same}
 use Rattle.path_subset.proofs.Refused.{refused}
 use Rattle.path_subset.proofs.RunLaws.{run_of, run_selects, misread_read}
 use Rattle.path_subset.proofs.RefusedExact.{outside_after, refuses_read}
@@ -45,16 +45,16 @@ these_kept : (all : List Inside) (o : Option Inner) (t : Inner) → with_these a
 these_kept all None t e = cc
 these_kept all (Some s) t e = let same : with_all all s ≡ t = cc in ap (λ (i : Inner). i.selections) (sym same)
 
-joint_kept : (frames : List Frame) (joint : Joint) (c : form.Condition) (all : List Inside) (p : Placed) (t : Inner) → m.joint_next frames joint c all p.symbol ≡ Some t → t.selections ≡ all
-joint_kept frames joint c all p t e = these_kept all (m.joint_next frames joint c all p.symbol) t (sym (joint_same all all frames joint c p.symbol) ∙ e)
+selected_kept : (frames : List Frame) (joint : Joint) (all : List Inside) (before : List form.Step) (k : ℕ) (p : Placed) (t : Inner) → m.advance_inner (stand frames joint all (m.selected before k)) p ≡ Some t → t.selections ≡ all
+selected_kept frames joint all before k p t e = these_kept all (m.advance_inner (stand frames joint all (m.selected before k)) p) t (sym (advance_same all all frames joint (m.selected before k) p refl) ∙ e)
 
 selecting_grows : (frames : List Frame) (joint : Joint) (all : List Inside) (before : List form.Step) (w : List Placed) (p : Placed) (o : Option (Shape selection.State)) (x : Option Tree) (t : Inner)
-    → m.otherwise (m.selecting_next frames joint all before (w ++ p ∷ []) o) (m.after_next frames joint (m.selected all before w x) p.symbol) ≡ Some t → Grown all t.selections
+    → leads_by frames joint all before w p o x ≡ Some t → Grown all t.selections
 selecting_grows frames joint all before w p (Some y) x t e =
     let same : stand frames joint all (m.selecting before (w ++ p ∷ []) y) ≡ t = cc in
     record { suffix = []; is = ap (λ (i : Inner). i.selections) (sym same) ∙ sym (append-nil all) }
 selecting_grows frames joint all before w p None None t e = cc
-selecting_grows frames joint all before w p None (Some x) t e = record { suffix = inside w x ∷ []; is = joint_kept frames joint (form.contains (steps before) (length all)) (all ++ inside w x ∷ []) p t e }
+selecting_grows frames joint all before w p None (Some x) t e = record { suffix = inside w x ∷ []; is = selected_kept frames joint (all ++ inside w x ∷ []) before (length all) p t e }
 
 inner_grows : (frames : List Frame) (joint : Joint) (all : List Inside) (stage : Stage) (p : Placed) (t : Inner) → m.advance_inner (stand frames joint all stage) p ≡ Some t → Grown all t.selections
 inner_grows frames joint all (m.selecting before w shape) p t e = selecting_grows frames joint all before w p (selection.advance shape p) (selection.finished_at shape) t e
@@ -99,7 +99,7 @@ module _ (root : PathRoot) (frames : List Frame) (joint : Joint) (all : List Ins
 
   -- none leads on
   ended_by_next : (w : List Placed) (y : Shape selection.State) (q : Placed) (rest : List Placed) (tree : Tree) (o : Option Inner) → selection.advance y q ≡ None → selection.finished_at y ≡ Some tree
-      → m.joint_next frames joint (form.contains (steps before) (length all)) (all ++ inside w tree ∷ []) q.symbol ≡ o → m.run_on (m.along_to root o) rest ≡ Some x → Passed w y (q ∷ rest) insides
+      → m.advance_inner (stand frames joint (all ++ inside w tree ∷ []) (m.selected before (length all))) q ≡ o → m.run_on (m.along_to root o) rest ≡ Some x → Passed w y (q ∷ rest) insides
   ended_by_next w y q rest tree None a k j e = cc
   ended_by_next w y q rest tree (Some t) a k j e =
       let grown = ends_grown root rest t x value insides e f in
@@ -114,17 +114,17 @@ module _ (root : PathRoot) (frames : List Frame) (joint : Joint) (all : List Ins
         runs = refl;
         ends = k;
         stops = λ p z h. let same : q ≡ p = cc in ap (selection.advance y) (sym same) ∙ a;
-        found = grown.is ∙ ap (λ z. z ++ grown.suffix) (joint_kept frames joint (form.contains (steps before) (length all)) (all ++ inside w tree ∷ []) q t j)
+        found = grown.is ∙ ap (λ z. z ++ grown.suffix) (selected_kept frames joint (all ++ inside w tree ∷ []) before (length all) q t j)
             ∙ append_assoc all (inside w tree ∷ []) grown.suffix ∙ ap (λ z. all ++ inside z tree ∷ grown.suffix) (sym (append-nil w));
       }
 
   ended_by : (w : List Placed) (y : Shape selection.State) (q : Placed) (rest : List Placed) (o : Option Tree) → selection.advance y q ≡ None → selection.finished_at y ≡ o
-      → m.run_on (m.along_to root (m.after_next frames joint (m.selected all before w o) q.symbol)) rest ≡ Some x → Passed w y (q ∷ rest) insides
+      → m.run_on (m.along_to root (leads_by frames joint all before w q None o)) rest ≡ Some x → Passed w y (q ∷ rest) insides
   ended_by w y q rest None a k e = cc
-  ended_by w y q rest (Some tree) a k e = ended_by_next w y q rest tree (m.joint_next frames joint (form.contains (steps before) (length all)) (all ++ inside w tree ∷ []) q.symbol) a k refl e
+  ended_by w y q rest (Some tree) a k e = ended_by_next w y q rest tree (m.advance_inner (stand frames joint (all ++ inside w tree ∷ []) (m.selected before (length all))) q) a k refl e
 
   passed_by : (w : List Placed) (y : Shape selection.State) (q : Placed) (rest : List Placed) (o : Option (Shape selection.State)) → selection.advance y q ≡ o
-      → m.run_on (m.along_to root (m.otherwise (m.selecting_next frames joint all before (w ++ q ∷ []) o) (m.after_next frames joint (m.selected all before w (selection.finished_at y)) q.symbol))) rest ≡ Some x
+      → m.run_on (m.along_to root (leads_by frames joint all before w q o (selection.finished_at y))) rest ≡ Some x
       → ((next : Shape selection.State) → m.run_on (Some (there (w ++ q ∷ []) next)) rest ≡ Some x → Passed (w ++ q ∷ []) next rest insides) → Passed w y (q ∷ rest) insides
   passed_by w y q rest None a e again = ended_by w y q rest (selection.finished_at y) a refl e
   passed_by w y q rest (Some next) a e again =

@@ -2,6 +2,7 @@ pub mod Frames
 pub mod Turns
 pub mod Skipped
 pub mod ShownLemmas
+pub mod WithoutLemmas
 pub mod Extents
 pub mod Everywhere
 pub mod Runs

@@ -19,7 +19,7 @@ use Rattle.path_grammar.specs.steps.Machine as m
 use Rattle.path_grammar.specs.steps.Machine.{Joint, Frame, Stage, Inner, stand}
 use Rattle.path_grammar.proofs.Begun.{read-append, refused_begins}
 use Rattle.path_grammar.proofs.Completed as completed
-use Rattle.path_subset.specs.Answer.{Led, after_run, with_run, led_by, before_selection_at, before_selection, with_condition, turned, further, ended_by, finished_path, read_from, path_read}
+use Rattle.path_subset.specs.Answer.{Led, after_run, with_run, led_by, before_selection_at, before_selection, with_selection, turned, further, ended_by, finished_path, read_from, path_read}
 use Rattle.path_subset.specs.Limits.{exceeds, limit_fault, WithinFrom}
 use Rattle.path_subset.specs.Paths.{PlacedForm, placed_form, PathForm}
 use Rattle.path_subset.specs.Refused as R
@@ -120,15 +120,15 @@ module _ (bad : Option ℕ) (size : ℕ) (fault : QueryFault) (p : Placed) (rest
     }
     ends_among (q ∷ c) d j want = absurd (within_none q c d (selection.run_on (Some (Shape.whole selection.start)) (q ∷ c)) j refl want)
 
-    through : exceeds (m.open_count s) p.symbol ≡ false → read_from (with_condition (m.along root i) (form.contains (steps before) (length found))) (found ++ placed_form x (take n rest) ∷ []) n rest bad size ≡ Err fault → Refuses (done ++ p ∷ rest) bad size fault
+    through : exceeds (m.open_count s) p.symbol ≡ false → read_from (with_selection (m.along root i) before (length found)) (found ++ placed_form x (take n rest) ∷ []) n rest bad size ≡ Err fault → Refuses (done ++ p ∷ rest) bad size fault
     through l e =
-        next n (m.along root (stand i.frames i.joint i.selections (m.ended (form.contains (steps before) (length all))))) (into (take n rest) run.shape) (all ++ inside (take n rest) run.selects.tree ∷ []) (found ++ placed_form x (take n rest) ∷ [])
+        next n (m.along root (stand i.frames i.joint i.selections (m.selected before (length all)))) (into (take n rest) run.shape) (all ++ inside (take n rest) run.selects.tree ∷ []) (found ++ placed_form x (take n rest) ∷ [])
         (Stands.ended root i.frames i.joint i.selections all before (take n rest) run.selects.tree run.shape (drop n rest) run.ends run.stops)
         (E.further each (inside (take n rest) run.selects.tree) x run.selects)
         (reads_on (Some (into [] (Shape.whole selection.start))) (take n rest) begun ∙ runs)
         (stands_on done p (take n rest) (drop n rest) (subst (λ z. MayStand done (p ∷ z)) (sym (take-append-drop n rest)) h) real (into [] (Shape.whole selection.start)) r begun (stays false l) stays_within
         (into (take n rest) run.shape) runs ends_among)
-        (ap (λ c. read_from (m.along root (stand i.frames i.joint i.selections (m.ended (form.contains (steps before) c)))) (found ++ placed_form x (take n rest) ∷ []) n rest bad size) (sym (counted each)) ∙ e)
+        (ap (λ c. read_from (m.along root (stand i.frames i.joint i.selections (m.selected before c))) (found ++ placed_form x (take n rest) ∷ []) n rest bad size) (sym (counted each)) ∙ e)
 
   by_run : (t : m.State) (before : List form.Step) (o : Result (Form × ℕ) QueryFault) → run_read rest bad size ≡ o → exceeds (m.open_count s) p.symbol ≡ false → m.advance s p ≡ Some t → before_selection t ≡ Some before
       → further (after_run t found before rest o) on ≡ Err fault → Refuses (done ++ p ∷ rest) bad size fault

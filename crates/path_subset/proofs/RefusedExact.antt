@@ -36,7 +36,7 @@ record EndsWithText (u : List Placed) : Type 0 where
 after_more : (u v : List Placed) → EndsWithText v → EndsWithText (u ++ v)
 after_more u v h = record { prefix = u ++ h.prefix; at = h.at; is = ap (λ z. u ++ z) h.is ∙ sym (append_assoc u h.prefix (name h.at (codes "text") ∷ [])) }
 
-under_ends : {frames : List Frame} {n : ℕ} {u : List Placed} {stage : Stage} {ss : List Inside} → standing.Under frames n u stage ss → (xs : List form.Step) → stage ≡ m.selecting xs [] (Shape.whole selection.start) → EndsWithText u
+under_ends : {frames : List Frame} {joint : m.Joint} {n : ℕ} {u : List Placed} {stage : Stage} {ss : List Inside} → standing.Under frames joint n u stage ss → (xs : List form.Step) → stage ≡ m.selecting xs [] (Shape.whole selection.start) → EndsWithText u
 under_ends (standing.selecting {u = u} rel p q v shape r) xs e =
     let none : v ≡ [] = cc in
     subst (λ z. EndsWithText (u ++ name p (codes "contains") ∷ name q (codes "text") ∷ z)) (sym none) (after_more u (name p (codes "contains") ∷ name q (codes "text") ∷ []) (record { prefix = name p (codes "contains") ∷ []; at = q; is = refl }))

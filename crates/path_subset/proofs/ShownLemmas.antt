@@ -2,9 +2,10 @@
 use Rattle.std.proofs.Common.{◌≡◌, ◌-◌, ℕ, zero, suc, Bool, true, false, List, [], ◌∷◌, length, map, slice_get, refl, sym, ap, ◌∙◌, arith}
 use Rattle.std.specs.Prelude.{Option, Some, None, IsTrue}
 use Rattle.path_grammar.specs.Form as form
-use Rattle.path_grammar.specs.View.{predicate, step}
+use Rattle.path_grammar.specs.View.{predicate, step, relative_path}
 use Rattle.path_grammar.proofs.Views.{view_step}
 use Rattle.path_grammar.specs.declared.path.Predicate.{Predicate}
+use Rattle.path_grammar.specs.declared.path.RelativePath.{RelativePath}
 use Rattle.path_grammar.specs.declared.path.Step.{Step}
 use Rattle.path_subset.specs.Shown.{condition_selection, predicate_selection, predicates_selection, step_selection, shown_selection}
 
@@ -32,7 +33,14 @@ last_step = said_by_last (λ xs. shown_selection (form.steps (map step xs))) (λ
     (λ s. ap step_selection (view_step s.deep s.test s.predicates)) (λ x y rest. refl)
 
 -- steps to other elements
-pub not_itself : (further : List Step) (selection : ℕ) (empty : Bool) → (further ≡ [] → IsTrue empty) → empty ≡ false
-    → None ≡ condition_selection (form.contains (form.steps (map step further)) selection)
-not_itself [] selection empty told h = let is : empty ≡ true = told refl in cc
-not_itself (s ∷ rest) selection empty told h = refl
+pub not_itself : (further : List Step) (selection : ℕ) (ignored : List RelativePath) (empty : Bool) → (further ≡ [] → IsTrue empty) → empty ≡ false
+    → None ≡ condition_selection (form.contains (form.steps (map step further)) selection (form.paths (map relative_path ignored)))
+not_itself [] selection ignored empty told h = let is : empty ≡ true = told refl in cc
+not_itself (s ∷ rest) selection ignored empty told h = refl
+
+-- and ignored paths
+pub not_alone : (further : List Step) (selection : ℕ) (ignored : List RelativePath) (empty : Bool) → (ignored ≡ [] → IsTrue empty) → empty ≡ false
+    → None ≡ condition_selection (form.contains (form.steps (map step further)) selection (form.paths (map relative_path ignored)))
+not_alone further selection [] empty told h = let is : empty ≡ true = told refl in cc
+not_alone [] selection (path ∷ rest) empty told h = refl
+not_alone (s ∷ more) selection (path ∷ rest) empty told h = refl

@@ -20,13 +20,14 @@ use Rattle.path_grammar.specs.Grammar.{Inside, inside}
 use Rattle.path_grammar.specs.steps.Machine as m
 use Rattle.path_grammar.specs.steps.Machine.{Joint, Frame, Stage, Inner, stand}
 use Rattle.path_grammar.proofs.Begun.{run_on-append}
+use Rattle.path_grammar.proofs.Primaries.{leads_by}
 use Rattle.path_grammar.proofs.Rooted.{read_path}
-use Rattle.path_subset.specs.Answer.{Led, after_run, with_run, led_by, before_selection_at, before_selection, with_condition, turned, further, ended_by, finished_path, read_from, path_read}
+use Rattle.path_subset.specs.Answer.{Led, after_run, with_run, led_by, before_selection_at, before_selection, with_selection, turned, further, ended_by, finished_path, read_from, path_read}
 use Rattle.path_subset.specs.Limits.{exceeds, limit_fault, goes_on, goes_on_at, WithinFrom}
 use Rattle.path_subset.specs.Paths.{PlacedForm, placed_form, PathForm, path_form}
 use Rattle.path_subset.specs.Spelled as E
 use Rattle.path_subset.specs.Spelled.{Each, SpellsPath}
-use Rattle.path_subset.proofs.Everywhere.{fresh, with_all, with_these, joint_same, advance_same}
+use Rattle.path_subset.proofs.Everywhere.{fresh, with_all, with_these, advance_same}
 use Rattle.path_subset.proofs.Runs.{Whole, whole_read}
 
 -- How the machine with the selections so far stands where the reader's, without them, stands before some symbols. After a selection it is inside it
@@ -37,7 +38,7 @@ pub data Stands : m.State → List Placed → List Inside → m.State → Type 0
       → Stands (m.along root (stand frames joint some stage)) u all (m.along root (stand frames joint all stage))
   ended : (root : PathRoot) (frames : List Frame) (joint : Joint) (some all : List Inside) (before : List form.Step) (w : List Placed) (x : Tree) (shape : Shape selection.State) (u : List Placed)
       → selection.finished_at shape ≡ Some x → ((q : Placed) (z : List Placed) → u ≡ q ∷ z → selection.advance shape q ≡ None)
-      → Stands (m.along root (stand frames joint some (m.ended (form.contains (steps before) (length all))))) u (all ++ inside w x ∷ []) (m.along root (stand frames joint all (m.selecting before w shape)))
+      → Stands (m.along root (stand frames joint some (m.selected before (length all)))) u (all ++ inside w x ∷ []) (m.along root (stand frames joint all (m.selecting before w shape)))
 
 abbrev pub with_state : List Inside → m.State → m.State
 with_state all (m.at_root r) = m.at_root r
@@ -68,11 +69,11 @@ along_these root all None = refl
 along_these root all (Some s) = refl
 
 ended_next : (frames : List Frame) (joint : Joint) (some all : List Inside) (before : List form.Step) (w : List Placed) (x : Tree) (shape : Shape selection.State) (p : Placed) → selection.finished_at shape ≡ Some x → selection.advance shape p ≡ None
-    → m.advance_inner (stand frames joint all (m.selecting before w shape)) p ≡ with_these (all ++ inside w x ∷ []) (m.advance_inner (stand frames joint some (m.ended (form.contains (steps before) (length all)))) p)
+    → m.advance_inner (stand frames joint all (m.selecting before w shape)) p ≡ with_these (all ++ inside w x ∷ []) (m.advance_inner (stand frames joint some (m.selected before (length all))) p)
 ended_next frames joint some all before w x shape p e stops =
-    ap (λ o. m.otherwise (m.selecting_next frames joint all before (w ++ p ∷ []) o) (m.after_next frames joint (m.selected all before w (selection.finished_at shape)) p.symbol)) stops
-    ∙ ap (λ o. m.after_next frames joint (m.selected all before w o) p.symbol) e
-    ∙ joint_same (all ++ inside w x ∷ []) some frames joint (form.contains (steps before) (length all)) p.symbol
+    ap (λ o. leads_by frames joint all before w p o (selection.finished_at shape)) stops
+    ∙ ap (leads_by frames joint all before w p None) e
+    ∙ advance_same (all ++ inside w x ∷ []) some frames joint (m.selected before (length all)) p refl
 
 pub step_same : (s real : m.State) (p : Placed) (rest : List Placed) (all : List Inside) → Stands s (p ∷ rest) all real → m.advance real p ≡ option_map (with_state all) (m.advance s p)
 step_same s real p rest all (Stands.at_root r u) = root_fixed r p.symbol
@@ -80,7 +81,7 @@ step_same s real p rest all (Stands.along root frames joint some these stage u e
     ap (m.along_to root) (advance_same these some frames joint stage p e) ∙ along_these root these (m.advance_inner (stand frames joint some stage) p)
 step_same s real p rest all (Stands.ended root frames joint some these before w x shape u e stops) =
     ap (m.along_to root) (ended_next frames joint some these before w x shape p e (stops p rest refl))
-    ∙ along_these root (these ++ inside w x ∷ []) (m.advance_inner (stand frames joint some (m.ended (form.contains (steps before) (length these)))) p)
+    ∙ along_these root (these ++ inside w x ∷ []) (m.advance_inner (stand frames joint some (m.selected before (length these))) p)
 
 fresh_same : (stage : Stage) → before_selection_at stage ≡ None → fresh stage ≡ stage
 fresh_same (m.selecting before symbols shape) e = cc
@@ -106,7 +107,7 @@ pub next_stands : (s real t : m.State) (p : Placed) (rest : List Placed) (all : 
 next_stands s real t p rest all (Stands.at_root r u) k e = root_stands t rest e
 next_stands s real t p rest all (Stands.along root frames joint some these stage u h) k e = led_along root (m.advance_inner (stand frames joint some stage) p) t these rest k e
 next_stands s real t p rest all (Stands.ended root frames joint some these before w x shape u h stops) k e =
-    led_along root (m.advance_inner (stand frames joint some (m.ended (form.contains (steps before) (length these)))) p) t (these ++ inside w x ∷ []) rest k e
+    led_along root (m.advance_inner (stand frames joint some (m.selected before (length these))) p) t (these ++ inside w x ∷ []) rest k e
 
 -- the symbols of a selection
 selecting_by : (root : PathRoot) (frames : List Frame) (joint : Joint) (all : List Inside) (before : List form.Step) (p : Placed) (v w : List Placed) (x r : Shape selection.State) (o : Option (Shape selection.State)) → selection.advance x p ≡ o → selection.run_on o v ≡ Some r
@@ -114,7 +115,7 @@ selecting_by : (root : PathRoot) (frames : List Frame) (joint : Joint) (all : Li
     → m.run_on (Some (m.along root (stand frames joint all (m.selecting before w x)))) (p ∷ v) ≡ Some (m.along root (stand frames joint all (m.selecting before (w ++ p ∷ v) r)))
 selecting_by root frames joint all before p v w x r None k e again = cc
 selecting_by root frames joint all before p v w x r (Some y) k e again =
-    ap (λ o. m.run_on (m.along_to root (m.otherwise (m.selecting_next frames joint all before (w ++ p ∷ []) o) (m.after_next frames joint (m.selected all before w (selection.finished_at x)) p.symbol))) v) k
+    ap (λ o. m.run_on (m.along_to root (leads_by frames joint all before w p o (selection.finished_at x))) v) k
     ∙ again y e
     ∙ ap (λ z. Some (m.along root (stand frames joint all (m.selecting before z r)))) (append_assoc w (p ∷ []) v)
 
@@ -161,7 +162,7 @@ symbol_within : (root : PathRoot) (frames : List Frame) (joint : Joint) (all : L
 symbol_within root frames joint all before p v b w x r None k e again = cc
 symbol_within root frames joint all before p v b w x r (Some y) k e again =
     one_within (m.along root (stand frames joint all (m.selecting before w x))) (m.along root (stand frames joint all (m.selecting before (w ++ p ∷ []) y))) p (v ++ b)
-    (ap (λ o. m.along_to root (m.otherwise (m.selecting_next frames joint all before (w ++ p ∷ []) o) (m.after_next frames joint (m.selected all before w (selection.finished_at x)) p.symbol))) k)
+    (ap (λ o. m.along_to root (leads_by frames joint all before w p o (selection.finished_at x))) k)
     (λ g. let two : true ≡ false = sym (ap is_some k) ∙ g in cc)
     (again y e)
 
@@ -238,7 +239,7 @@ module _ (bad : Option ℕ) (size : ℕ) (value : PathForm) (p : Placed) (rest :
 
   -- through a selection
   through : (root : PathRoot) (i : Inner) (before : List form.Step) (x : Form) (n : ℕ) → exceeds (m.open_count s) p.symbol ≡ false → m.advance s p ≡ Some (m.along root i) → before_selection_at i.stage ≡ Some before → Whole rest x n
-      → read_from (with_condition (m.along root i) (form.contains (steps before) (length found))) (found ++ placed_form x (take n rest) ∷ []) n rest bad size ≡ Ok value → Sound real (p ∷ rest) bad value
+      → read_from (with_selection (m.along root i) before (length found)) (found ++ placed_form x (take n rest) ∷ []) n rest bad size ≡ Ok value → Sound real (p ∷ rest) bad value
   through root i before x n l a k run e =
       let fresh_is : fresh i.stage ≡ m.selecting before [] (Shape.whole selection.start) = fresh_selecting i.stage before k in
       let along_is : m.run_on (Some (with_state all (m.along root i))) rest ≡ m.run_on (Some (m.along root (stand i.frames i.joint all (m.selecting before [] (Shape.whole selection.start))))) rest = ap (λ z. m.run_on (Some (m.along root (stand i.frames i.joint all z))) rest) fresh_is in
@@ -246,16 +247,16 @@ module _ (bad : Option ℕ) (size : ℕ) (value : PathForm) (p : Placed) (rest :
       ap (m.run_on (Some (m.along root (stand i.frames i.joint all (m.selecting before [] (Shape.whole selection.start)))))) (sym (take-append-drop n rest))
       ∙ run_on-append (Some (m.along root (stand i.frames i.joint all (m.selecting before [] (Shape.whole selection.start))))) (take n rest) (drop n rest)
       ∙ ap (λ o. m.run_on o (drop n rest)) (selecting_run root i.frames i.joint all before (take n rest) [] (Shape.whole selection.start) run.shape run.reads) in
-      let stands : Stands (m.along root (stand i.frames i.joint i.selections (m.ended (form.contains (steps before) (length all))))) (drop n rest) (all ++ inside (take n rest) run.selects.tree ∷ []) (m.along root (stand i.frames i.joint all (m.selecting before (take n rest) run.shape))) =
+      let stands : Stands (m.along root (stand i.frames i.joint i.selections (m.selected before (length all)))) (drop n rest) (all ++ inside (take n rest) run.selects.tree ∷ []) (m.along root (stand i.frames i.joint all (m.selecting before (take n rest) run.shape))) =
       Stands.ended root i.frames i.joint i.selections all before (take n rest) run.selects.tree run.shape (drop n rest) run.ends run.stops in
-      let reads : read_from (m.along root (stand i.frames i.joint i.selections (m.ended (form.contains (steps before) (length all))))) (found ++ placed_form x (take n rest) ∷ []) n rest bad size ≡ Ok value =
-      ap (λ c. read_from (m.along root (stand i.frames i.joint i.selections (m.ended (form.contains (steps before) c)))) (found ++ placed_form x (take n rest) ∷ []) n rest bad size) (sym (counted each)) ∙ e in
+      let reads : read_from (m.along root (stand i.frames i.joint i.selections (m.selected before (length all)))) (found ++ placed_form x (take n rest) ∷ []) n rest bad size ≡ Ok value =
+      ap (λ c. read_from (m.along root (stand i.frames i.joint i.selections (m.selected before c))) (found ++ placed_form x (take n rest) ∷ []) n rest bad size) (sym (counted each)) ∙ e in
       sound_before real (m.along root (stand i.frames i.joint all (m.selecting before (take n rest) run.shape))) (p ∷ rest) (drop n rest) bad value (one_on (m.along root i) a ∙ along_is ∙ split)
       (λ w. one_within real (with_state all (m.along root i)) p rest (advances (m.along root i) a) (stays_within l)
       (subst (λ z. WithinFrom (m.along root (stand i.frames i.joint all z)) rest) (sym fresh_is)
       (subst (WithinFrom (m.along root (stand i.frames i.joint all (m.selecting before [] (Shape.whole selection.start))))) (take-append-drop n rest)
       (selection_within root i.frames i.joint all before (take n rest) (drop n rest) [] (Shape.whole selection.start) run.shape run.reads w))))
-      (again n (m.along root (stand i.frames i.joint i.selections (m.ended (form.contains (steps before) (length all))))) (m.along root (stand i.frames i.joint all (m.selecting before (take n rest) run.shape)))
+      (again n (m.along root (stand i.frames i.joint i.selections (m.selected before (length all)))) (m.along root (stand i.frames i.joint all (m.selecting before (take n rest) run.shape)))
       (all ++ inside (take n rest) run.selects.tree ∷ []) (found ++ placed_form x (take n rest) ∷ []) stands (E.further each (inside (take n rest) run.selects.tree) x run.selects) reads)
 
   by_run : (t : m.State) (before : List form.Step) (r : Result (Form × ℕ) QueryFault) → run_read rest bad size ≡ r → exceeds (m.open_count s) p.symbol ≡ false → m.advance s p ≡ Some t → before_selection t ≡ Some before

@@ -28,6 +28,7 @@ joint_next_by [] joint c S.At = refl
 joint_next_by [] joint c S.Equals = refl
 joint_next_by [] joint c S.Period = refl
 joint_next_by [] joint c S.Star = refl
+joint_next_by [] joint c S.VerticalBar = refl
 joint_next_by (frame ∷ outer) joint c (S.Name name) = refl
 joint_next_by (frame ∷ outer) joint c (S.Number n) = refl
 joint_next_by (frame ∷ outer) joint c (S.Text text) = refl
@@ -44,3 +45,13 @@ joint_next_by (frame ∷ outer) joint c S.At = refl
 joint_next_by (frame ∷ outer) joint c S.Equals = refl
 joint_next_by (frame ∷ outer) joint c S.Period = refl
 joint_next_by (frame ∷ outer) joint c S.Star = refl
+joint_next_by (frame ∷ outer) joint c S.VerticalBar = refl
+
+-- what a condition leads to doesn't depend on whether its last path is an ignored one
+pub left_next : (frames : List m.Frame) (ors ands : List form.Condition) (ignoring : Option m.Ignoring) (c : form.Condition) (symbol : Symbol)
+    → m.joint_next frames (m.to_left ors ands) c [] symbol ≡ m.joint_next frames (record { ors = ors; ands = ands; ignoring = ignoring }) c [] symbol
+left_next [] ors ands ignoring c symbol = refl
+left_next (frame ∷ outer) ors ands ignoring c S.CloseBracket = refl
+left_next (frame ∷ outer) ors ands ignoring c S.CloseParenthesis = refl
+left_next (frame ∷ outer) ors ands ignoring c (S.Name name) = refl
+left_next (frame ∷ outer) ors ands ignoring c other = refl

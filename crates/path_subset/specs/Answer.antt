@@ -8,7 +8,7 @@ use Rattle.selection_grammar.specs.declared.symbol.Symbols.{Symbols}
 use Rattle.ft_parser.specs.Prefix.{run_read}
 use Rattle.query_symbols.specs.Symbols.{symbols_of}
 use Rattle.path_grammar.specs.Form as form
-use Rattle.path_grammar.specs.steps.Machine.{State, Stage, nothing, at_root, along, stand, ended, selecting, advance, finished, open_count}
+use Rattle.path_grammar.specs.steps.Machine.{State, Stage, nothing, at_root, along, stand, selecting, selected, advance, finished, open_count}
 use Rattle.path_subset.specs.Limits.{exceeds, limit_fault}
 use Rattle.path_subset.specs.Paths.{PlacedForm, placed_form, PathForm, path_form}
 
@@ -21,10 +21,10 @@ abbrev pub before_selection : State → Option (List form.Step)
 before_selection (at_root stage) = None
 before_selection (along root s) = before_selection_at s.stage
 
--- after a whole condition, in the place of what was read last
-abbrev pub with_condition : State → form.Condition → State
-with_condition (at_root stage) c = at_root stage
-with_condition (along root s) c = along root (stand s.frames s.joint s.selections (ended c))
+-- after the selection of a number, in the place of what was read last
+abbrev pub with_selection : State → List form.Step → ℕ → State
+with_selection (at_root stage) before number = at_root stage
+with_selection (along root s) before number = along root (stand s.frames s.joint s.selections (selected before number))
 
 -- Where a symbol leads: the machine, whose own list of selections stays empty, since each is read by itself; the selections so far;
 -- and how many of the symbols after it were read with it, as a selection.
@@ -40,7 +40,7 @@ led state selections count = record { state = state; selections = selections; co
 abbrev pub after_run : State → List PlacedForm → List form.Step → List Placed → Result (Form × ℕ) QueryFault → Result Led QueryFault
 after_run s selections before rest (Err fault) = Err fault
 after_run s selections before rest (Ok (x, count)) =
-    Ok (led (with_condition s (form.contains (form.steps before) (length selections))) (selections ++ placed_form x (take count rest) ∷ []) count)
+    Ok (led (with_selection s before (length selections)) (selections ++ placed_form x (take count rest) ∷ []) count)
 
 abbrev pub with_run : State → List PlacedForm → Option (List form.Step) → List Placed → Option ℕ → ℕ → Result Led QueryFault
 with_run s selections None rest bad size = Ok (led s selections 0)

@@ -1,15 +1,15 @@
 -- Which selection of a path says what its selected elements show: that of a last predicate of the last step which is `. contains text` with
--- the selection, and nothing else.
+-- the selection, and nothing else, so none where `without content` follows.
 use Rattle.std.specs.Prelude.{ℕ, Bool, false, nat_eq, if◌then◌else◌, List, codes, drop, slice_get, Option, Some, None}
 use Rattle.std.specs.List.{starts_with}
 use Rattle.text_lines.specs.Lines.{trimmed_start}
 use Rattle.path_grammar.specs.Form.{Step, step, Steps, no_steps, step_then, Predicate, number, holds, Predicates, no_predicates, predicate_then}
-use Rattle.path_grammar.specs.Form.{Condition, contains}
+use Rattle.path_grammar.specs.Form.{Condition, contains, no_paths}
 use Rattle.path_subset.specs.Paths.{PathForm, PlacedForm}
 
 -- the number of the selection that elements are to satisfy themselves
 abbrev pub condition_selection : Condition → Option ℕ
-condition_selection (contains no_steps selection) = Some selection
+condition_selection (contains no_steps selection no_paths) = Some selection
 condition_selection other = None
 
 abbrev pub predicate_selection : Predicate → Option ℕ

@@ -3,17 +3,19 @@
 // what steps and `or` stand for
 path_grammar::proofs::Views::view_step, path_grammar::proofs::Views::view_or,
 // `and` and `not`
-path_grammar::proofs::Views::view_and, path_grammar::proofs::Views::view_not))]
+path_grammar::proofs::Views::view_and, path_grammar::proofs::Views::view_not,
+// steps alone, `contains text`, and an ignored path
+path_grammar::proofs::Views::view_exists, path_grammar::proofs::Views::view_contains, path_grammar::proofs::Views::view_relative_path))]
 
-ghost use Rattle.std.specs.Prelude.{◌≡◌, [], ◌∷◌, ◌++◌, IfOk, map};
+ghost use Rattle.std.specs.Prelude.{◌≡◌, [], ◌∷◌, ◌++◌, IfOk, map, option_map};
 ghost use Rattle.path_grammar.specs.Form as form;
 ghost use Rattle.path_grammar.specs.steps.Machine as m;
 ghost use Rattle.path_grammar.specs.View.{condition, predicate};
-ghost use Rattle.path_subset.specs.steps.State.{joint_of, last_of, steps_of};
+ghost use Rattle.path_subset.specs.steps.State.{ignoring_of, joint_of, last_of, steps_of};
 
-use crate::state::{Joint, LastStep};
+use crate::state::{Ignoring, Joint, LastStep};
 use ft_base::{Items, Line, Memory};
-use path_grammar::{Condition, NameTest, Predicate, Step};
+use path_grammar::{Condition, NameTest, Predicate, RelativePath, Step};
 use std::alloc::Global;
 
 /// The steps before the last one, and that one.
@@ -67,9 +69,17 @@ pub(crate) fn filtered(last: LastStep, filter: Predicate) -> Result<LastStep, Me
 pub(crate) fn no_joint(alloc: Global) -> Joint
     ensures { joint_of result ≡ m.no_joint }
 {
+    to_left(Vec::new(alloc), Vec::new(alloc))
+}
+
+/// To the left of a condition that begins.
+pub(crate) fn to_left(ors: Vec<Condition>, ands: Vec<Condition>) -> Joint
+    ensures { joint_of result ≡ m.to_left (map condition ors.items) (map condition ands.items) }
+{
     Joint {
-        ors: Vec::new(alloc),
-        ands: Vec::new(alloc),
+        ors,
+        ands,
+        ignoring: None,
     }
 }
 
@@ -107,31 +117,104 @@ pub(crate) fn condition_with(joint: Joint, last: Condition) -> Result<Condition,
 
 /// To the left of the condition after `and`.
 pub(crate) fn after_and(joint: Joint, last: Condition) -> Result<Joint, Memory>
-    ensures { IfOk result (λ there. joint_of there ≡ record { ors = (joint_of joint).ors; ands = m.ands_with (joint_of joint) (condition last) }) }
+    ensures { IfOk result (λ there. joint_of there ≡ m.to_left (joint_of joint).ors (m.ands_with (joint_of joint) (condition last))) }
 {
     let mut ands = joint.ands;
     ands.push(last)?;
-    Ok(Joint {
-        ors: joint.ors,
-        ands,
-    })
+    Ok(to_left(joint.ors, ands))
 }
 
 /// To the left of the condition after `or`.
 pub(crate) fn after_or(alloc: Global, joint: Joint, last: Condition) -> Result<Joint, Memory>
-    ensures { IfOk result (λ there. joint_of there ≡ record { ors = m.ors_with (joint_of joint) (condition last); ands = [] }) }
+    ensures { IfOk result (λ there. joint_of there ≡ m.to_left (m.ors_with (joint_of joint) (condition last)) []) }
 {
     let and = and_with(joint.ands, last)?;
     let mut ors = joint.ors;
     ors.push(and)?;
-    Ok(Joint {
-        ors,
-        ands: Vec::new(alloc),
-    })
+    Ok(to_left(ors, Vec::new(alloc)))
 }
 
 pub(crate) fn negated(alloc: Global, operand: Condition) -> Result<Condition, Memory>
     ensures { IfOk result (λ c. condition c ≡ form.not_of (condition operand)) }
 {
     Ok(Condition::Not(Box::new(alloc, operand)?))
+}
+
+/// With the steps of one more ignored path.
+pub(crate) fn with_path(ignoring: Ignoring, last: Vec<Step>) -> Result<Ignoring, Memory>
+    ensures { IfOk result (λ there. ignoring_of there ≡ m.with_path (ignoring_of ignoring) (steps_of last.items)) }
+{
+    let mut paths = ignoring.paths;
+    paths.push(RelativePath {
+        steps: Items::from_vec(last),
+    })?;
+    Ok(Ignoring {
+        before: ignoring.before,
+        selection: ignoring.selection,
+        paths,
+    })
+}
+
+/// To the left of an ignored path.
+pub(crate) fn ignored(ors: Vec<Condition>, ands: Vec<Condition>, ignoring: Ignoring) -> Joint
+    ensures { joint_of result ≡ m.ignored (map condition ors.items) (map condition ands.items) (ignoring_of ignoring) }
+{
+    Joint {
+        ors,
+        ands,
+        ignoring: Some(ignoring),
+    }
+}
+
+/// To the left of an ignored path after `content`.
+pub(crate) fn after_content(
+    alloc: Global,
+    joint: Joint,
+    before: Vec<Step>,
+    selection: usize,
+) -> Joint
+    ensures { joint_of result
+        ≡ m.ignored (joint_of joint).ors (joint_of joint).ands (record { before = steps_of before.items; selection = selection; paths = [] }) }
+{
+    let paths = Vec::new(alloc);
+    ignored(
+        joint.ors,
+        joint.ands,
+        Ignoring {
+            before,
+            selection,
+            paths,
+        },
+    )
+}
+
+/// What steps are a condition of.
+pub(crate) fn steps_condition(
+    ignoring: Option<Ignoring>,
+    last: Vec<Step>,
+) -> Result<Condition, Memory>
+    ensures { IfOk result (λ c. condition c ≡ m.steps_condition (option_map ignoring_of ignoring) (steps_of last.items)) }
+{
+    match ignoring {
+        None => Ok(Condition::Exists(Items::from_vec(last))),
+        Some(ignoring) => {
+            let all = with_path(ignoring, last)?;
+            Ok(Condition::Contains {
+                steps: Items::from_vec(all.before),
+                selection: all.selection,
+                ignored: Items::from_vec(all.paths),
+            })
+        }
+    }
+}
+
+/// `contains text` with a selection alone.
+pub(crate) fn selected(alloc: Global, before: Vec<Step>, selection: usize) -> Condition
+    ensures { condition result ≡ form.contains (form.steps (steps_of before.items)) selection form.no_paths }
+{
+    Condition::Contains {
+        steps: Items::from_vec(before),
+        selection,
+        ignored: Items::new(alloc),
+    }
 }

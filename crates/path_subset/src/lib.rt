@@ -14,6 +14,7 @@ mod shown;
 mod state;
 mod stepping;
 mod turn;
+mod without;
 
 pub use path::{Extent, ReadPath};
 pub use read::read_path;

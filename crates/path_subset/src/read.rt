@@ -20,7 +20,7 @@ use crate::state::{Frame, Inner, Joint, LastStep, ReadSoFar, RootStage, Stage, S
 use crate::turn::{inner_turn, root_turn};
 use ft_base::{Items, Memory, QueryFault};
 use ft_parser::{read_run, symbols};
-use path_grammar::{Condition, Path, PathRoot, Step};
+use path_grammar::{Path, PathRoot, Step};
 use selection_grammar::Placed;
 use std::alloc::Global;
 
@@ -190,11 +190,7 @@ fn selection(
     match read_run(alloc, rest.symbols, rest.bad, rest.size) {
         Ok((selection, count)) => {
             let extent = extent(&rest.symbols[..count]);
-            let whole = Condition::Contains {
-                steps: Items::from_vec(before),
-                selection: found.len(),
-            };
-            let inner = stand(frames, joint, Stage::Ended(whole));
+            let inner = stand(frames, joint, Stage::Selected(before, found.len()));
             let state = State::Along(root, inner);
             match with_found(found, Found { selection, extent }) {
                 Ok(found) => Ok((ReadSoFar { state, found }, count)),

@@ -18,7 +18,7 @@ use text_lines::skip_blanks;
 
 impl ReadPath {
     /// The number of the selection in the last predicate of the last step, where that is `. contains text` with the selection and nothing
-    /// else, not even parentheses round it: it says what the selected elements show. The text is the one from which the path was read.
+    /// else, not even parentheses round it or `without content` behind it: it says what the selected elements show. The text is the one from which the path was read.
     pub fn shown(&self, text: &str) -> Option<usize>
         ensures { result ≡ shown_number text.now (read_form self.now) }
     {
@@ -87,8 +87,12 @@ fn condition_selection(holds: &Condition) -> Option<usize>
     ensures { result ≡ spec.condition_selection (condition holds.now) }
 {
     match holds {
-        Condition::Contains { steps, selection } => {
-            if steps.is_empty() {
+        Condition::Contains {
+            steps,
+            selection,
+            ignored,
+        } => {
+            if steps.is_empty() && ignored.is_empty() {
                 Some(*selection)
             } else {
                 None

@@ -1,6 +1,6 @@
 use crate::path::Found;
 use ft_base::{Items, Line};
-use path_grammar::{Condition, NameTest, PathRoot, Predicate, Step};
+use path_grammar::{Condition, NameTest, PathRoot, Predicate, RelativePath, Step};
 
 /// A step to which further predicates may belong, and the steps before it.
 #[derive(Drop)]
@@ -11,11 +11,21 @@ pub(crate) struct LastStep {
     pub(crate) filters: Vec<Predicate>,
 }
 
-/// The conditions to the left of the one under way: those before the last `or`, and after it those before the last `and`.
+/// `contains text` with the selection of this number, after these steps, and the paths after `without content`, but for the one under way.
+#[derive(Drop)]
+pub(crate) struct Ignoring {
+    pub(crate) before: Vec<Step>,
+    pub(crate) selection: usize,
+    pub(crate) paths: Vec<RelativePath>,
+}
+
+/// The conditions to the left of the one under way: those before the last `or`, and after it those before the last `and`; and where an
+/// ignored path is under way, what it belongs to.
 #[derive(Drop)]
 pub(crate) struct Joint {
     pub(crate) ors: Vec<Condition>,
     pub(crate) ands: Vec<Condition>,
+    pub(crate) ignoring: Option<Ignoring>,
 }
 
 /// An open bracket or parenthesis, and what stands to the left of it.
@@ -50,6 +60,12 @@ pub(crate) enum Stage {
     Ended(Condition),
     /// `contains`, after these steps.
     Contains(Vec<Step>),
+    /// The selection of this number, after those steps.
+    Selected(Vec<Step>, usize),
+    /// `without`, after that.
+    Without(Vec<Step>, usize),
+    /// What an ignored path stands after: `content`, or `|`.
+    PathWanted,
 }
 
 /// Where the reader stands after the root: the open brackets and parentheses, the innermost last, and what is inside them.

@@ -2,11 +2,12 @@
 #![tactic(auto)]
 
 ghost use Rattle.std.specs.Prelude.{◌≡◌, [], IfOk, option_map};
+ghost use Rattle.path_grammar.specs.Form as form;
 ghost use Rattle.path_grammar.specs.steps.Machine as m;
-ghost use Rattle.path_subset.specs.steps.State.{frames_of, inner_of, joint_of, root_stage_of, state_of, steps_of, way_of};
+ghost use Rattle.path_subset.specs.steps.State.{Leads, frames_of, inner_of, joint_of, root_stage_of, state_of, steps_of, way_of};
 ghost use Rattle.path_subset.specs.steps.Turns.{closed_root, opened_root};
 
-use crate::building::no_joint;
+use crate::building::{after_content, no_joint, selected};
 use crate::closing::{after_condition, stand};
 use crate::conditions::{at_sign, attribute, equals, numbered, wanted};
 use crate::heads::is_word;
@@ -43,6 +44,13 @@ pub(crate) fn inner_turn(
         Stage::Equals(name) => Ok(on(equals(alloc, frames, joint, name, symbol)?)),
         Stage::Ended(whole) => Ok(on(after_condition(alloc, frames, joint, whole, symbol)?)),
         Stage::Contains(before) => Ok(text(frames, joint, before, symbol)),
+        Stage::Selected(before, number) => {
+            Ok(on(after_selection(alloc, frames, joint, before, number, symbol)?))
+        }
+        Stage::Without(before, number) => {
+            Ok(on(content(alloc, frames, joint, before, number, symbol)))
+        }
+        Stage::PathWanted => Ok(on(path(alloc, frames, joint, symbol)?)),
     }
 }
 
@@ -63,6 +71,60 @@ fn text(frames: Vec<Frame>, joint: Joint, before: Vec<Step>, symbol: &Symbol) ->
         return None;
     }
     Some(Way::Selection(frames, joint, before))
+}
+
+/// `without` after a selection, or what may stand after the condition.
+fn after_selection(
+    alloc: Global,
+    frames: Vec<Frame>,
+    joint: Joint,
+    before: Vec<Step>,
+    number: usize,
+    symbol: &Symbol,
+) -> Result<Option<Inner>, Memory>
+    ensures { Leads
+        (m.otherwise (m.without_next (frames_of frames.items) (joint_of joint) [] (steps_of before.items) number symbol.now)
+        (m.joint_next (frames_of frames.items) (joint_of joint) (form.contains (form.steps (steps_of before.items)) number form.no_paths) [] symbol.now))
+        result }
+{
+    if is_word(symbol, "without") {
+        return Ok(Some(stand(frames, joint, Stage::Without(before, number))));
+    }
+    let whole = selected(alloc, before, number);
+    after_condition(alloc, frames, joint, whole, symbol)
+}
+
+/// `content`, after `without`.
+fn content(
+    alloc: Global,
+    frames: Vec<Frame>,
+    joint: Joint,
+    before: Vec<Step>,
+    number: usize,
+    symbol: &Symbol,
+) -> Option<Inner>
+    ensures { option_map inner_of result ≡ m.content_next (frames_of frames.items) (joint_of joint) [] (steps_of before.items) number symbol.now }
+{
+    if !is_word(symbol, "content") {
+        return None;
+    }
+    let joint = after_content(alloc, joint, before, number);
+    Some(stand(frames, joint, Stage::PathWanted))
+}
+
+/// The first symbol of an ignored path.
+fn path(
+    alloc: Global,
+    frames: Vec<Frame>,
+    joint: Joint,
+    symbol: &Symbol,
+) -> Result<Option<Inner>, Memory>
+    ensures { Leads (m.path_next (frames_of frames.items) (joint_of joint) [] symbol.now) result }
+{
+    match symbol {
+        Symbol::Period => Ok(Some(stand(frames, joint, Stage::NoStep))),
+        _ => test(alloc, frames, joint, Vec::new(alloc), false, symbol),
+    }
 }
 
 /// Where a symbol leads in the root.

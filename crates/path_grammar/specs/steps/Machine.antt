@@ -12,7 +12,7 @@ use Rattle.path_grammar.specs.declared.path.NameTest.TheVariants as T
 use Rattle.path_grammar.specs.declared.path.PathRoot.{PathRoot}
 use Rattle.path_grammar.specs.declared.path.PathRoot.TheVariants as R
 use Rattle.path_grammar.specs.Form as form
-use Rattle.path_grammar.specs.Form.{steps, predicates, joined, or_of, and_of}
+use Rattle.path_grammar.specs.Form.{steps, predicates, paths, no_paths, joined, or_of, and_of}
 use Rattle.path_grammar.specs.Grammar.{Inside, inside}
 
 -- a step to which further predicates may belong, and the steps before it
@@ -31,13 +31,30 @@ all_steps last = last.before ++ form.step last.deep last.test (predicates last.f
 abbrev pub filtered : LastStep → form.Predicate → LastStep
 filtered last filter = record { before = last.before; deep = last.deep; test = last.test; filters = last.filters ++ filter ∷ [] }
 
--- the conditions to the left of the one under way: those before the last `or`, and after that those before the last `and`
+-- `contains text` with a selection, after these steps, and the paths after `without content`, but for the one under way
+pub record Ignoring : Type 0 where
+  pub before : List form.Step
+  pub selection : ℕ
+  pub paths : List form.Steps
+
+abbrev pub with_path : Ignoring → List form.Step → Ignoring
+with_path i last = record { before = i.before; selection = i.selection; paths = i.paths ++ steps last ∷ [] }
+
+-- What is to the left of the condition under way: the conditions before the last `or`, and after that those before the last `and`;
+-- and where a path after `without content` is under way, what it belongs to.
 pub record Joint : Type 0 where
   pub ors : List form.Condition
   pub ands : List form.Condition
+  pub ignoring : Option Ignoring
+
+abbrev pub to_left : List form.Condition → List form.Condition → Joint
+to_left ors ands = record { ors = ors; ands = ands; ignoring = None }
 
 abbrev pub no_joint : Joint
-no_joint = record { ors = []; ands = [] }
+no_joint = to_left [] []
+
+abbrev pub ignored : List form.Condition → List form.Condition → Ignoring → Joint
+ignored ors ands i = record { ors = ors; ands = ands; ignoring = Some i }
 
 abbrev pub ands_with : Joint → form.Condition → List form.Condition
 ands_with joint c = joint.ands ++ c ∷ []
@@ -78,6 +95,11 @@ pub data Stage : Type 0 where
   contains : List form.Step → Stage
   -- some symbols of a selection, and where its machine stands after them
   selecting : List form.Step → List Placed → Shape selection.State → Stage
+  -- a selection that was read by itself, with its number, and with `without` after it
+  selected : List form.Step → ℕ → Stage
+  without : List form.Step → ℕ → Stage
+  -- what an ignored path stands after: `content`, or `|`
+  path_wanted : Stage
 
 -- After the root. Where nothing is open, the steps are those of the path.
 pub record Inner : Type 0 where
@@ -96,10 +118,19 @@ start = stand [] no_joint [] no_step
 abbrev pub not_step : LastStep
 not_step = tested [] false (T.Name (codes "not"))
 
--- what goes on with the steps of a condition, and with those of the path
+-- what goes on with the steps of a condition, but for those of an ignored path
+abbrev pub unless_ignored : Option Ignoring → Option Inner → Option Inner
+unless_ignored None there = there
+unless_ignored (Some i) there = None
+
 abbrev pub contains_next : List Frame → Joint → List Inside → List form.Step → Option Inner
 contains_next [] joint selections before = None
-contains_next (frame ∷ outer) joint selections before = Some (stand (frame ∷ outer) joint selections (contains before))
+contains_next (frame ∷ outer) joint selections before = unless_ignored joint.ignoring (Some (stand (frame ∷ outer) joint selections (contains before)))
+
+-- what goes on with the steps of an ignored path
+abbrev pub bar_next : List Frame → Joint → List Inside → List form.Step → Option Ignoring → Option Inner
+bar_next frames joint selections before None = None
+bar_next frames joint selections before (Some i) = Some (stand frames (ignored joint.ors joint.ands (with_path i before)) selections path_wanted)
 
 -- what may stand after steps, but for predicates
 abbrev pub steps_next : List Frame → Joint → List Inside → List form.Step → Symbol → Option Inner
@@ -107,6 +138,7 @@ steps_next frames joint selections before S.Slash = Some (stand frames joint sel
 steps_next frames joint selections before S.DoubleSlash = Some (stand frames joint selections (slashes before true))
 steps_next frames joint selections before (S.Name name) = if is_word (codes "contains") (S.Name name) then contains_next frames joint selections before
     else None
+steps_next frames joint selections before S.VerticalBar = bar_next frames joint selections before joint.ignoring
 steps_next frames joint selections before other = None
 
 abbrev pub step_next : List Frame → Joint → List Inside → LastStep → Symbol → Option Inner
@@ -171,6 +203,31 @@ abbrev pub selecting_next : List Frame → Joint → List Inside → List form.S
 selecting_next frames joint selections before symbols None = None
 selecting_next frames joint selections before symbols (Some shape) = Some (stand frames joint selections (selecting before symbols shape))
 
+-- an ignored path begins with no condition but that of its steps
+abbrev pub path_next : List Frame → Joint → List Inside → Symbol → Option Inner
+path_next frames joint selections S.Period = Some (stand frames joint selections no_step)
+path_next frames joint selections other = test_next frames joint selections [] false other
+
+abbrev pub without_next : List Frame → Joint → List Inside → List form.Step → ℕ → Symbol → Option Inner
+without_next frames joint selections before k symbol = if is_word (codes "without") symbol
+    then Some (stand frames joint selections (without before k))
+    else None
+
+abbrev pub content_next : List Frame → Joint → List Inside → List form.Step → ℕ → Symbol → Option Inner
+content_next frames joint selections before k symbol = if is_word (codes "content") symbol
+    then Some (stand frames (ignored joint.ors joint.ands (record { before = before; selection = k; paths = [] })) selections path_wanted)
+    else None
+
+-- `without` after a selection that may end here
+abbrev pub whole_next : List Frame → Joint → List Inside → List form.Step → List Placed → Option Tree → Symbol → Option Inner
+whole_next frames joint selections before symbols None symbol = None
+whole_next frames joint selections before symbols (Some tree) symbol =
+    without_next frames joint (selections ++ inside symbols tree ∷ []) before (length selections) symbol
+
+abbrev pub otherwise : {A : Type 0} → Option A → Option A → Option A
+otherwise None there = there
+otherwise (Some here) there = Some here
+
 -- where a symbol leads that goes on with the condition under way, or with the steps of the path
 abbrev pub within_next : List Frame → Joint → List Inside → Stage → Placed → Option Inner
 within_next frames joint selections no_step p = steps_next frames joint selections [] p.symbol
@@ -185,33 +242,45 @@ within_next frames joint selections (equals name) p = value_next frames joint se
 within_next frames joint selections (ended c) p = None
 within_next frames joint selections (contains before) p = text_next frames joint selections before p.symbol
 within_next frames joint selections (selecting before symbols shape) p =
-    selecting_next frames joint selections before (symbols ++ p ∷ []) (selection.advance shape p)
+    otherwise (selecting_next frames joint selections before (symbols ++ p ∷ []) (selection.advance shape p))
+    (whole_next frames joint selections before symbols (selection.finished_at shape) p.symbol)
+within_next frames joint selections (selected before k) p = without_next frames joint selections before k p.symbol
+within_next frames joint selections (without before k) p = content_next frames joint selections before k p.symbol
+within_next frames joint selections path_wanted p = path_next frames joint selections p.symbol
 
 -- a condition with the selections up to its end
-abbrev pub selected : List Inside → List form.Step → List Placed → Option Tree → Option (form.Condition × List Inside)
-selected selections before symbols None = None
-selected selections before symbols (Some tree) = Some (form.contains (steps before) (length selections), selections ++ inside symbols tree ∷ [])
+abbrev pub with_selection : List Inside → List form.Step → List Placed → Option Tree → Option (form.Condition × List Inside)
+with_selection selections before symbols None = None
+with_selection selections before symbols (Some tree) = Some (form.contains (steps before) (length selections) no_paths, selections ++ inside symbols tree ∷ [])
+
+-- what steps are a condition of: that they lead somewhere, or where they are those of an ignored path, that to which it belongs
+abbrev pub steps_condition : Option Ignoring → List form.Step → form.Condition
+steps_condition None last = form.exists (steps last)
+steps_condition (Some i) last = form.contains (steps i.before) i.selection (paths (i.paths ++ steps last ∷ []))
 
 -- the condition under way, if it may end here
-abbrev pub condition_at : List Inside → Stage → Option (form.Condition × List Inside)
-condition_at selections no_step = Some (form.exists (steps []), selections)
-condition_at selections (slashes before deep) = None
-condition_at selections (stepped last) = Some (form.exists (steps (all_steps last)), selections)
-condition_at selections (wanted first) = None
-condition_at selections (number k) = None
-condition_at selections not_name = Some (form.exists (steps (all_steps not_step)), selections)
-condition_at selections at_sign = None
-condition_at selections (attribute name) = Some (form.attribute name None, selections)
-condition_at selections (equals name) = None
-condition_at selections (ended c) = Some (c, selections)
-condition_at selections (contains before) = None
-condition_at selections (selecting before symbols shape) = selected selections before symbols (selection.finished_at shape)
+abbrev pub condition_at : Option Ignoring → List Inside → Stage → Option (form.Condition × List Inside)
+condition_at ignoring selections no_step = Some (steps_condition ignoring [], selections)
+condition_at ignoring selections (slashes before deep) = None
+condition_at ignoring selections (stepped last) = Some (steps_condition ignoring (all_steps last), selections)
+condition_at ignoring selections (wanted first) = None
+condition_at ignoring selections (number k) = None
+condition_at ignoring selections not_name = Some (steps_condition ignoring (all_steps not_step), selections)
+condition_at ignoring selections at_sign = None
+condition_at ignoring selections (attribute name) = Some (form.attribute name None, selections)
+condition_at ignoring selections (equals name) = None
+condition_at ignoring selections (ended c) = Some (c, selections)
+condition_at ignoring selections (contains before) = None
+condition_at ignoring selections (selecting before symbols shape) = with_selection selections before symbols (selection.finished_at shape)
+condition_at ignoring selections (selected before k) = Some (form.contains (steps before) k no_paths, selections)
+condition_at ignoring selections (without before k) = None
+condition_at ignoring selections path_wanted = None
 
 -- what may stand after a whole condition
 abbrev pub joint_words : List Frame → Joint → form.Condition → List Inside → Symbol → Option Inner
 joint_words frames joint c selections symbol =
-    if is_word (codes "and") symbol then Some (stand frames (record { ors = joint.ors; ands = ands_with joint c }) selections (wanted false))
-    else if is_word (codes "or") symbol then Some (stand frames (record { ors = ors_with joint c; ands = [] }) selections (wanted false))
+    if is_word (codes "and") symbol then Some (stand frames (to_left joint.ors (ands_with joint c)) selections (wanted false))
+    else if is_word (codes "or") symbol then Some (stand frames (to_left (ors_with joint c) []) selections (wanted false))
     else None
 
 abbrev pub joint_next : List Frame → Joint → form.Condition → List Inside → Symbol → Option Inner
@@ -225,13 +294,9 @@ abbrev pub after_next : List Frame → Joint → Option (form.Condition × List 
 after_next frames joint None symbol = None
 after_next frames joint (Some (c, selections)) symbol = joint_next frames joint c selections symbol
 
-abbrev pub otherwise : {A : Type 0} → Option A → Option A → Option A
-otherwise None there = there
-otherwise (Some here) there = Some here
-
 -- What can go on goes on, so that selections are as long as can be.
 abbrev pub advance_inner : Inner → Placed → Option Inner
-advance_inner s p = otherwise (within_next s.frames s.joint s.selections s.stage p) (after_next s.frames s.joint (condition_at s.selections s.stage) p.symbol)
+advance_inner s p = otherwise (within_next s.frames s.joint s.selections s.stage p) (after_next s.frames s.joint (condition_at s.joint.ignoring s.selections s.stage) p.symbol)
 
 -- what of the root was read
 pub data RootStage : Type 0 where

@@ -12,7 +12,8 @@ ghost use Rattle.path_meaning.specs.Collection.{nodes, found_in};
 ghost use Rattle.path_meaning.specs.Elements.{placed};
 ghost use Rattle.path_meaning.specs.Examples.{places, has_text, nothing, letters, nested, three_deep, with_attribute, with_two_of_one_name};
 ghost use Rattle.path_grammar.specs.Spellings.{child, below};
-ghost use Rattle.path_grammar.specs.Form.{step, steps, no_steps, predicates, number, holds, and_of, or_of, not_of, attribute, exists, contains, conditions};
+ghost use Rattle.path_grammar.specs.Form.{step, steps, no_steps, predicates, number, holds, conditions, no_paths};
+ghost use Rattle.path_grammar.specs.Form.{and_of, or_of, not_of, attribute, exists, contains};
 
 /// Steps in `<a><b>x</b><b>y</b><c><b>x y</b></c></a>`, and in elements of one name inside one another.
 pub fn selected_by_steps()
@@ -29,10 +30,10 @@ pub fn selected_by_steps()
 pub fn selected_by_number()
     ensures second { places nothing (below (codes "b") (number 2 ∷ []) ∷ []) letters ≡ (2 ∷ []) ∷ [] }
     ensures first_of_each { places nothing (below (codes "b") (number 1 ∷ []) ∷ []) letters ≡ (1 ∷ []) ∷ (3 ∷ 1 ∷ []) ∷ [] }
-    ensures after_a_text { places (has_text (codes "x")) (below (codes "b") (holds (contains no_steps 0) ∷ number 2 ∷ []) ∷ []) letters ≡ [] }
-    ensures second_as_first { places (has_text (codes "y")) (below (codes "b") (holds (contains no_steps 0) ∷ number 1 ∷ []) ∷ []) letters
+    ensures after_a_text { places (has_text (codes "x")) (below (codes "b") (holds (contains no_steps 0 no_paths) ∷ number 2 ∷ []) ∷ []) letters ≡ [] }
+    ensures second_as_first { places (has_text (codes "y")) (below (codes "b") (holds (contains no_steps 0 no_paths) ∷ number 1 ∷ []) ∷ []) letters
         ≡ (2 ∷ []) ∷ (3 ∷ 1 ∷ []) ∷ [] }
-    ensures before_a_text { places (has_text (codes "y")) (below (codes "b") (number 1 ∷ holds (contains no_steps 0) ∷ []) ∷ [])
+    ensures before_a_text { places (has_text (codes "y")) (below (codes "b") (number 1 ∷ holds (contains no_steps 0 no_paths) ∷ []) ∷ [])
         letters ≡ (3 ∷ 1 ∷ []) ∷ [] }
     ensures zero { places nothing (below (codes "b") (number 0 ∷ []) ∷ []) letters ≡ [] }
     ensures past_the_last { places nothing (below (codes "b") (number 1000000 ∷ []) ∷ []) letters ≡ [] }
@@ -42,15 +43,16 @@ pub fn selected_by_number()
 pub fn selected_by_condition()
     ensures text_below { places (has_text (codes "x y"))
         (child (codes "a") (holds
-        (and_of (conditions (contains (steps (child (codes "c") [] ∷ child (codes "b") [] ∷ [])) 0 ∷ not_of (attribute (codes "k") None) ∷ []))) ∷ []) ∷ [])
+        (and_of (conditions (contains (steps (child (codes "c") [] ∷ child (codes "b") [] ∷ [])) 0 no_paths ∷ not_of (attribute (codes "k") None) ∷ []))) ∷ []) ∷ [])
         letters ≡ [] ∷ [] }
     ensures other_text_below { places (has_text (codes "y x"))
-        (child (codes "a") (holds (contains (steps (child (codes "c") [] ∷ child (codes "b") [] ∷ [])) 0) ∷ []) ∷ []) letters ≡ [] }
+        (child (codes "a") (holds (contains (steps (child (codes "c") [] ∷ child (codes "b") [] ∷ [])) 0 no_paths) ∷ []) ∷ []) letters ≡ [] }
     ensures itself { places nothing (below (codes "b") (holds (exists no_steps) ∷ []) ∷ []) letters ≡ (1 ∷ []) ∷ (2 ∷ []) ∷ (3 ∷ 1 ∷ []) ∷ [] }
     ensures some_child { places nothing (below (codes "a") (holds (exists (steps (child (codes "a") [] ∷ []))) ∷ []) ∷ []) three_deep ≡ [] ∷ (1 ∷ []) ∷ [] }
-    ensures text_of_both { places (has_text (codes "y")) (below (codes "a") (holds (contains no_steps 0) ∷ []) ∷ []) nested ≡ [] ∷ (2 ∷ []) ∷ [] }
-    ensures text_of_one { places (has_text (codes "y z")) (below (codes "a") (holds (contains no_steps 0) ∷ []) ∷ []) nested ≡ [] ∷ [] }
-    ensures other_selection { places (has_text (codes "y")) (below (codes "a") (holds (contains no_steps 1) ∷ []) ∷ []) nested ≡ [] }
+    ensures text_of_both { places (has_text (codes "y")) (below (codes "a") (holds (contains no_steps 0 no_paths) ∷ []) ∷ []) nested
+        ≡ [] ∷ (2 ∷ []) ∷ [] }
+    ensures text_of_one { places (has_text (codes "y z")) (below (codes "a") (holds (contains no_steps 0 no_paths) ∷ []) ∷ []) nested ≡ [] ∷ [] }
+    ensures other_selection { places (has_text (codes "y")) (below (codes "a") (holds (contains no_steps 1 no_paths) ∷ []) ∷ []) nested ≡ [] }
     ensures value { places nothing (child (codes "a") (holds (attribute (codes "t") (Some (codes "1"))) ∷ []) ∷ []) with_attribute ≡ [] ∷ [] }
     ensures other_value { places nothing (child (codes "a") (holds (attribute (codes "t") (Some (codes "2"))) ∷ []) ∷ []) with_attribute ≡ [] }
     ensures first_of_a_name { places nothing (child (codes "a") (holds (attribute (codes "t") (Some (codes "1"))) ∷ []) ∷ []) with_two_of_one_name ≡ [] ∷ [] }

@@ -3,11 +3,12 @@ use Rattle.std.specs.Prelude.{◌≡◌, List, [], map, reverse, Option, option_
 use Rattle.selection_grammar.specs.Shapes.{whole}
 use Rattle.selection_grammar.specs.steps.Machine as selection
 use Rattle.ft_base.specs.declared.memory.Memory.{Memory}
-use Rattle.path_grammar.specs.View.{step, predicate, condition}
+use Rattle.path_grammar.specs.View.{step, predicate, condition, relative_path}
 use Rattle.path_grammar.specs.Form as form
 use Rattle.path_grammar.specs.steps.Machine as m
 use Rattle.path_grammar.specs.declared.path.Step.{Step}
 use Rattle.path_subset.specs.declared.state.LastStep.{LastStep}
+use Rattle.path_subset.specs.declared.state.Ignoring.{Ignoring}
 use Rattle.path_subset.specs.declared.state.Joint.{Joint}
 use Rattle.path_subset.specs.declared.state.Frame.{Frame}
 use Rattle.path_subset.specs.declared.state.Frame.TheVariants as F
@@ -27,8 +28,11 @@ steps_of steps = map step steps
 abbrev pub last_of : LastStep → m.LastStep
 last_of last = record { before = steps_of last.before.items; deep = last.deep; test = last.test; filters = map predicate last.filters.items }
 
+abbrev pub ignoring_of : Ignoring → m.Ignoring
+ignoring_of i = record { before = steps_of i.before.items; selection = i.selection; paths = map relative_path i.paths.items }
+
 abbrev pub joint_of : Joint → m.Joint
-joint_of joint = record { ors = map condition joint.ors.items; ands = map condition joint.ands.items }
+joint_of joint = record { ors = map condition joint.ors.items; ands = map condition joint.ands.items; ignoring = option_map ignoring_of joint.ignoring }
 
 abbrev pub frame_of : Frame → m.Frame
 frame_of (F.Brackets joint last) = m.brackets (joint_of joint) (last_of last)
@@ -51,6 +55,9 @@ stage_of (S.Attribute name) = m.attribute name
 stage_of (S.Equals name) = m.equals name
 stage_of (S.Ended c) = m.ended (condition c)
 stage_of (S.Contains before) = m.contains (steps_of before.items)
+stage_of (S.Selected before number) = m.selected (steps_of before.items) number
+stage_of (S.Without before number) = m.without (steps_of before.items) number
+stage_of S.PathWanted = m.path_wanted
 
 abbrev pub stands : List m.Frame → m.Joint → m.Stage → m.Inner
 stands frames joint stage = m.stand frames joint [] stage

@@ -16,7 +16,7 @@ joint_words (frame ∷ outer) joint c symbol = m.joint_words (frame ∷ outer) j
 abbrev pub contains_or_joint : List m.Frame → m.Joint → List form.Step → Symbol → Option m.Inner
 contains_or_joint frames joint before symbol =
     if is_word (codes "contains") symbol then m.contains_next frames joint [] before
-    else m.joint_next frames joint (form.exists (form.steps before)) [] symbol
+    else m.joint_next frames joint (m.steps_condition joint.ignoring before) [] symbol
 
 -- the parentheses of the root
 abbrev pub opened_root : Symbol → m.RootStage → Option m.State
