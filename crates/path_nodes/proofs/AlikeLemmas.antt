@@ -7,7 +7,8 @@ use Rattle.path_meaning.specs.Elements as el
 use Rattle.path_meaning.specs.Elements.{Element, placed, elements_from, elements_below, elements_among, element_children, elements, kids_of, is_in}
 use Rattle.path_grammar.specs.Form as form
 use Rattle.path_grammar.specs.Form.{Step, step, Steps, no_steps, step_then, Predicate, holds, Predicates, no_predicates, predicate_then, Condition, or_of, and_of, not_of, attribute, exists, contains, Conditions, no_conditions, condition_then}
-use Rattle.path_meaning.specs.Meaning.{Context, document, item, children, with_descendants, lists, is_named, some_element, stepped, led, filtered, filtered_by, is_true, some_true, each_true, selected}
+use Rattle.path_grammar.specs.Form.{Paths, no_paths, path_then}
+use Rattle.path_meaning.specs.Meaning.{Context, document, item, children, with_descendants, lists, is_named, some_element, stepped, led, filtered, filtered_by, is_true, some_true, each_true, ignored, led_by_each, selected}
 use Rattle.path_meaning.proofs.Lists.{filter-alike, list_any-alike}
 use Rattle.path_nodes.specs.steps.Regions.{at_or_below}
 use Rattle.path_nodes.specs.steps.Within.{is_prefix}
@@ -87,7 +88,11 @@ map-alike f g (l ∷ ls) same = ap (λ x. x ∷ map f ls) (All-head (λ l. f l �
 
 -- ---- what two answers that are alike for these elements lead to
 
-module _ (f g : ℕ → Element → Bool) (root : Node) (same : All (λ e. (k : ℕ) → f k e ≡ g k e) (elements root)) where
+-- the same is said of an element, whichever elements of the document are ignored
+abbrev pub SayAlike : (ℕ → List Element → Element → Bool) → (ℕ → List Element → Element → Bool) → Node → Element → Type 0
+SayAlike f g root e = (k : ℕ) (without : List Element) → All (In root) without → f k without e ≡ g k without e
+
+module _ (f g : ℕ → List Element → Element → Bool) (root : Node) (same : All (SayAlike f g root) (elements root)) where
   pub stepped-in : (s : Step) (cs : List Context) → All (In root) (stepped g (elements root) s cs)
   unfolding stepped
   stepped-in (step deep test ps) cs =
@@ -98,11 +103,17 @@ module _ (f g : ℕ → Element → Bool) (root : Node) (same : All (λ e. (k : 
   led-in no_steps items h = h
   led-in (step_then s rest) items h = led-in rest (stepped g (elements root) s (map item items)) (stepped-in s (map item items))
 
+  ignored-in : (paths : Paths) (e : Element) → All (In root) (ignored g (elements root) paths e)
+  unfolding ignored
+  ignored-in no_paths e = All-nil (In root)
+  ignored-in (path_then path rest) e =
+      All-filter (is_in (led g (elements root) path (e ∷ []) ∷ led_by_each g (elements root) rest e)) (In root) (elements root) (All-contains_itself (elements root))
+
   pub one : (e : Element) → In root e → All (In root) (e ∷ [])
   one e there = All-cons (In root) e [] there (All-nil (In root))
 
   mutual
-    unfolding stepped led filtered filtered_by is_true some_true each_true
+    unfolding stepped led filtered filtered_by is_true some_true each_true ignored led_by_each
 
     pub stepped-alike : (s : Step) (cs : List Context) → All (ContextIn root) cs → stepped f (elements root) s cs ≡ stepped g (elements root) s cs
     stepped-alike (step deep test ps) cs h =
@@ -133,11 +144,25 @@ module _ (f g : ℕ → Element → Bool) (root : Node) (same : All (λ e. (k : 
     true-alike (not_of c) e there = ap not (true-alike c e there)
     true-alike (attribute name value) e there = refl
     true-alike (exists s) e there = ap some_element (led-alike s (e ∷ []) (one e there))
-    true-alike (contains s selection) e there =
+    true-alike (contains s selection paths) e there =
         let found = led g (elements root) s (e ∷ []) in
-        ap (list_any (f selection)) (led-alike s (e ∷ []) (one e there))
-        ∙ list_any-alike (f selection) (g selection) found
-        (λ i d within. All-contains (λ x. (k : ℕ) → f k x ≡ g k x) (elements root) (get_or found i d) same (led-in s (e ∷ []) (one e there) i d within) selection)
+        let without = ignored g (elements root) paths e in
+        ap (λ l. list_any (f selection l) (led f (elements root) s (e ∷ []))) (ignored-alike paths e there)
+        ∙ ap (list_any (f selection without)) (led-alike s (e ∷ []) (one e there))
+        ∙ list_any-alike (f selection without) (g selection without) found
+        (λ i d within. All-contains (SayAlike f g root) (elements root) (get_or found i d) same (led-in s (e ∷ []) (one e there) i d within) selection without (ignored-in paths e))
+
+    ignored-alike : (paths : Paths) (e : Element) → In root e → ignored f (elements root) paths e ≡ ignored g (elements root) paths e
+    ignored-alike no_paths e there = refl
+    ignored-alike (path_then path rest) e there =
+        ap (λ l. filter (is_in (l ∷ led_by_each f (elements root) rest e)) (elements root)) (led-alike path (e ∷ []) (one e there))
+        ∙ ap (λ ls. filter (is_in (led g (elements root) path (e ∷ []) ∷ ls)) (elements root)) (led-each-alike rest e there)
+
+    led-each-alike : (paths : Paths) (e : Element) → In root e → led_by_each f (elements root) paths e ≡ led_by_each g (elements root) paths e
+    led-each-alike no_paths e there = refl
+    led-each-alike (path_then path rest) e there =
+        ap (λ l. l ∷ led_by_each f (elements root) rest e) (led-alike path (e ∷ []) (one e there))
+        ∙ ap (λ ls. led g (elements root) path (e ∷ []) ∷ ls) (led-each-alike rest e there)
 
     some-alike : (cs : Conditions) (e : Element) → In root e → some_true f (elements root) cs e ≡ some_true g (elements root) cs e
     some-alike no_conditions e there = refl

@@ -1,14 +1,18 @@
 -- What is asked by a part is asked by the whole.
 use Rattle.std.proofs.Common.{◌≡◌, ◌<◌, ℕ, zero, suc, List, [], ◌∷◌, map, length, get_or, subst, arith, rules}
 use Rattle.path_grammar.specs.Form as form
-use Rattle.path_grammar.specs.View.{step, predicate, condition}
+use Rattle.path_grammar.specs.View.{step, predicate, condition, relative_path}
 use Rattle.path_grammar.specs.declared.path.Step.{Step}
 use Rattle.path_grammar.specs.declared.path.Predicate.{Predicate}
+use Rattle.path_grammar.specs.declared.path.RelativePath.{RelativePath, out-RelativePath}
 use Rattle.path_grammar.specs.declared.path.Condition.{Condition, the_lemmas}
-use Rattle.path_nodes.specs.Asked.{OfEach, OfStep, OfPredicates, OfPredicate, OfCondition, OfConditions}
+use Rattle.path_nodes.specs.Asked.{OfEach, OfStep, OfPredicates, OfPredicate, OfCondition, OfConditions, OfPaths}
 
 pub step-is : (s : Step) → step s ≡ form.step s.deep s.test (form.predicates (map predicate s.predicates))
 step-is s = search (rules, the_lemmas)
+
+pub path-is : (p : RelativePath) → relative_path p ≡ form.steps (map step (out-RelativePath p).steps)
+path-is p = search (rules, the_lemmas)
 
 module _ (P : ℕ → Type 0) where
   pub of-step : (s : Step) → OfStep P (step s) → OfPredicates P (form.predicates (map predicate s.predicates))
@@ -32,6 +36,12 @@ module _ (P : ℕ → Type 0) where
   nth-condition [] i d lt h = absurd (omega (arith, lt))
   nth-condition (x ∷ xs) zero d lt h = h.0
   nth-condition (x ∷ xs) (suc i) d lt h = nth-condition xs i d (omega (arith, lt)) h.1
+
+  pub nth-path : (xs : List RelativePath) (i : ℕ) (d : RelativePath) → i < length xs → OfPaths P (form.paths (map relative_path xs)) → OfEach P (form.steps (map step (out-RelativePath (get_or xs i d)).steps))
+  unfolding OfPaths
+  nth-path [] i d lt h = absurd (omega (arith, lt))
+  nth-path (x ∷ xs) zero d lt h = subst (OfEach P) (path-is x) h.0
+  nth-path (x ∷ xs) (suc i) d lt h = nth-path xs i d (omega (arith, lt)) h.1
 
 -- what holds of every number holds of those for which steps ask
 mutual
@@ -58,8 +68,12 @@ mutual
   all-condition P h (form.not_of c) = all-condition P h c
   all-condition P h (form.attribute name value) = tt
   all-condition P h (form.exists s) = of-all P h s
-  all-condition P h (form.contains s k) = (of-all P h s, h k)
+  all-condition P h (form.contains s k paths) = (of-all P h s, h k, all-paths P h paths)
 
   all-conditions : (P : ℕ → Type 0) → ((k : ℕ) → P k) → (cs : form.Conditions) → OfConditions P cs
   all-conditions P h form.no_conditions = tt
   all-conditions P h (form.condition_then c cs) = (all-condition P h c, all-conditions P h cs)
+
+  all-paths : (P : ℕ → Type 0) → ((k : ℕ) → P k) → (paths : form.Paths) → OfPaths P paths
+  all-paths P h form.no_paths = tt
+  all-paths P h (form.path_then path paths) = (of-all P h path, all-paths P h paths)

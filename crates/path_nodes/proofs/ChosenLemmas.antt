@@ -79,7 +79,7 @@ numbered-of P (suc k) (x ∷ items) h =
       | inr ge ↦ subst (All P) (sym (past 1 k (x ∷ items) (omega (arith, ge))) ∙ ap (λ n. numbered_from 1 n (x ∷ items)) e) (All-nil P)
     ]
 
-module _ (sat : ℕ → Element → Bool) (all : List Element) (P : Element → Type 0) where
+module _ (sat : ℕ → List Element → Element → Bool) (all : List Element) (P : Element → Type 0) where
   pub by-of : (p : Predicate) (items : List Element) → All P items → All P (filtered_by sat all p items)
   unfolding filtered_by
   by-of (form.number k) items h = numbered-of P k items h

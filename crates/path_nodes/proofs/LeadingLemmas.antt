@@ -3,12 +3,13 @@ use Rattle.std.proofs.Common.{◌≡◌, ◌+◌, ◌<◌, ℕ, List, [], ◌∷
 use Rattle.std.proofs.lemmas.List.{append_assoc, drop-drop, drop_more, length-append}
 use Rattle.std.proofs.Math.Seq.{drop-append_seam}
 use Rattle.path_grammar.specs.Form as form
-use Rattle.path_grammar.specs.View.{step, predicate, condition}
+use Rattle.path_grammar.specs.View.{step, predicate, condition, relative_path}
 use Rattle.path_grammar.specs.declared.path.Step.{Step}
 use Rattle.path_grammar.specs.declared.path.Predicate.{Predicate}
 use Rattle.path_grammar.specs.declared.path.Condition.{Condition}
-use Rattle.path_nodes.specs.steps.Leading.{StandFrom, in_steps, in_step, in_predicates, in_predicate, in_condition, in_conditions}
-use Rattle.path_nodes.proofs.AskedLemmas.{step-is}
+use Rattle.path_grammar.specs.declared.path.RelativePath.{RelativePath, out-RelativePath}
+use Rattle.path_nodes.specs.steps.Leading.{StandFrom, in_steps, in_step, in_predicates, in_predicate, in_condition, in_conditions, in_paths}
+use Rattle.path_nodes.proofs.AskedLemmas.{step-is, path-is}
 
 -- ---- one part, then the rest
 
@@ -26,6 +27,13 @@ pub conditions-from : (xs : List Condition) (i : ℕ) (d : Condition) → i < le
     → in_conditions (form.conditions (map condition (drop i xs))) ≡ in_condition (condition (get_or xs i d)) ++ in_conditions (form.conditions (map condition (drop (i + 1) xs)))
 unfolding in_conditions
 conditions-from xs i d lt = ap (λ l. in_conditions (form.conditions (map condition l))) (drop_more xs i d lt)
+
+pub paths-from : (xs : List RelativePath) (i : ℕ) (d : RelativePath) → i < length xs
+    → in_paths (form.paths (map relative_path (drop i xs))) ≡ in_steps (form.steps (map step (out-RelativePath (get_or xs i d)).steps)) ++ in_paths (form.paths (map relative_path (drop (i + 1) xs)))
+unfolding in_paths
+paths-from xs i d lt =
+    ap (λ l. in_paths (form.paths (map relative_path l))) (drop_more xs i d lt)
+    ∙ ap (λ s. in_steps s ++ in_paths (form.paths (map relative_path (drop (i + 1) xs)))) (path-is (get_or xs i d))
 
 pub in-step : (s : Step) → in_step (step s) ≡ in_predicates (form.predicates (map predicate s.predicates))
 unfolding in_step

@@ -15,6 +15,7 @@ pub mod SelectedLemmas
 pub mod MemberLemmas
 pub mod AboveLemmas
 pub mod WayLemmas
+pub mod IgnoredLemmas
 pub mod NamedLemmas
 pub mod AlikeLemmas
 pub mod TestLemmas
@@ -27,3 +28,4 @@ pub mod SpanLemmas
 pub mod SufficeLemmas
 pub mod OfferingLemmas
 pub mod RulingOutLemmas
+pub mod LentLemmas

@@ -23,7 +23,7 @@ both-false : (a b : Bool) → (a || b) ≡ false → (a ≡ false) × (b ≡ fal
 both-false true b h = cc
 both-false false b h = (refl, h)
 
-module _ (sat : ℕ → Element → Bool) (all : List Element) where
+module _ (sat : ℕ → List Element → Element → Bool) (all : List Element) where
   pub led-next : (xs : List Step) (i : ℕ) (d : Step) → i < length xs → (items new : List Element) → new ≡ stepped sat all (step (get_or xs i d)) (map item items)
       → led sat all (form.steps (map step (drop (i + 1) xs))) new ≡ led sat all (form.steps (map step (drop i xs))) items
   unfolding led

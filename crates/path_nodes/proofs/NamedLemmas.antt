@@ -1,7 +1,7 @@
 -- Each element of a document is named by a reference.
-use Rattle.std.proofs.Common.{◌≡◌, ◌≢◌, ◌+◌, ℕ, Bool, true, List, [], ◌∷◌, ◌++◌, get_or, refl, sym, ap, ◌∙◌, arith}
+use Rattle.std.proofs.Common.{◌≡◌, ◌≢◌, ◌+◌, ℕ, Bool, true, List, [], ◌∷◌, ◌++◌, map, get_or, refl, sym, ap, ◌∙◌, subst, arith}
 use Rattle.std.specs.List.{All, AllPairs, Contains}
-use Rattle.std.proofs.lemmas.List.Elements.{All-nil, All-cons, All-append, All-contains, Contains-append_left, Contains-append_right, Contains-get_or}
+use Rattle.std.proofs.lemmas.List.Elements.{All-nil, All-cons, All-head, All-tail, All-append, All-contains, Contains-append_left, Contains-append_right, Contains-get_or}
 use Rattle.path_meaning.specs.Elements.{Element, placed, elements_from, elements_below, elements}
 use Rattle.ordered_tree.specs.Numbered.{Numbered, element_at, text_at, Children, no_children, child_then, plain, plain_children, first_of, is_element}
 use Rattle.ordered_tree.specs.Stands.{round_root, round_first, round_next, references}
@@ -10,6 +10,7 @@ use Rattle.ft_base.specs.declared.ids.NodeRef.{NodeRef}
 use Rattle.path_nodes.specs.References.{Spot, spots, child_spots, spots_in, spot_reference, spot_element, element_of, IsElement}
 use Rattle.path_nodes.specs.Says.{Meaning, Agrees, Costs, reference_of, satisfied}
 use Rattle.path_nodes.proofs.AboveLemmas.{top}
+use Rattle.path_nodes.proofs.AlikeLemmas.{SayAlike}
 use Rattle.path_nodes.proofs.PlaceLemmas.{reference-back}
 use Rattle.path_nodes.proofs.SpotLemmas.{Contains-cons, element_of-is}
 
@@ -58,8 +59,32 @@ module _ (root : Numbered) (apart : AllPairs (λ a b. a ≢ b) (references root)
       let h = element-there e (Contains-get_or (elements (plain root)) i d within) in
       ap (λ x. f k (reference_of root x)) (sym h.2) ∙ ap (f k) (reference-back root h.0 h.1) ∙ agree k h.0 h.1 ∙ ap (g k) h.2
 
-  pub agrees-there : (m : Meaning) (sat : ℕ → Element → Bool) → Agrees root m sat → All (λ e. (k : ℕ) → satisfied root m k e ≡ sat k e) (elements (plain root))
-  agrees-there m sat agree = said-there m.says sat agree
+  -- an element by its reference
+  by-reference : (e : Element) → Contains (elements (plain root)) e → IsElement root (reference_of root e) × (element_of root (reference_of root e) ≡ e)
+  by-reference e there =
+      let h = element-there e there in
+      let back : reference_of root e ≡ h.0 = ap (reference_of root) (sym h.2) ∙ reference-back root h.0 h.1 in
+      (subst (IsElement root) (sym back) h.1, ap (element_of root) back ∙ h.2)
+
+  by-references : (xs : List Element) → All (Contains (elements (plain root))) xs
+      → All (IsElement root) (map (reference_of root) xs) × (map (element_of root) (map (reference_of root) xs) ≡ xs)
+  by-references [] h = (All-nil (IsElement root), refl)
+  by-references (x ∷ xs) h =
+      let P = Contains (elements (plain root)) in
+      let first = by-reference x (All-head P x xs h) in
+      let rest = by-references xs (All-tail P x xs h) in (
+        All-cons (IsElement root) (reference_of root x) (map (reference_of root) xs) first.0 rest.0,
+        ap (λ y. y ∷ map (element_of root) (map (reference_of root) xs)) first.1 ∙ ap (λ l. x ∷ l) rest.1,
+      )
+
+  pub agrees-there : (m : Meaning) (sat : ℕ → List Element → Element → Bool) → Agrees root m sat → All (SayAlike (satisfied root m) sat (plain root)) (elements (plain root))
+  agrees-there m sat agree = λ i d within k without there.
+      let e = get_or (elements (plain root)) i d in
+      let one = by-reference e (Contains-get_or (elements (plain root)) i d within) in
+      let all = by-references without there in
+      agree k (map (reference_of root) without) (reference_of root e) all.0 one.0
+      ∙ ap (λ l. sat k l (element_of root (reference_of root e))) all.1
+      ∙ ap (sat k without) one.1
 
   pub costs-there : (m : Meaning) (price : ℕ → Element → ℕ) → Costs root m price → All (λ e. (k : ℕ) → m.price k (reference_of root e) ≡ price k e) (elements (plain root))
   costs-there m price costs = said-there m.price price costs

@@ -76,7 +76,7 @@ or-turned false false c d = refl
 
 -- ---- predicates that are conditions, on each element by itself
 
-module _ (sat : ℕ → Element → Bool) (all : List Element) where
+module _ (sat : ℕ → List Element → Element → Bool) (all : List Element) where
   pub filtered-passes : (ps : Predicates) → some_number ps ≡ false → (items : List Element) → filtered sat all ps items ≡ filter (passes sat all ps) items
   unfolding filtered filtered_by
   filtered-passes no_predicates none items = sym (filter-true items)

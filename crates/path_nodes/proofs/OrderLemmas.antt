@@ -213,7 +213,7 @@ pub one-ordered : (e : Element) → AllPairs Before (e ∷ [])
 one-ordered e = λ i j d less within. absurd (omega (arith, less, within))
 
 -- what a step leads to
-pub stepped-ordered : (sat : ℕ → Element → Bool) (root : Node) (s : Step) (cs : List Context) → AllPairs Before (stepped sat (elements root) s cs)
+pub stepped-ordered : (sat : ℕ → List Element → Element → Bool) (root : Node) (s : Step) (cs : List Context) → AllPairs Before (stepped sat (elements root) s cs)
 unfolding stepped
 stepped-ordered sat root (step deep test ps) cs =
     AllPairs-filter Before (is_in (map (λ items. filtered sat (elements root) ps (filter (λ e. is_named test e.node) items)) (flat_map (lists deep) cs))) (elements root) (ordered-from [] root)

@@ -1,9 +1,9 @@
 -- No two nodes of a document have the same place.
-use Rattle.std.proofs.Common.{◌≡◌, ◌+◌, ◌==◌, ℕ, suc, Bool, List, [], ◌∷◌, ◌++◌, Some, refl, sym, ap, ◌∙◌, arith, append_assoc, append-nil}
+use Rattle.std.proofs.Common.{◌≡◌, ◌+◌, ◌==◌, ℕ, suc, Bool, List, [], ◌∷◌, ◌++◌, map, Some, refl, sym, ap, ◌∙◌, arith, append_assoc, append-nil}
 use Rattle.std.specs.List.{All, Contains}
 use Rattle.std.specs.Prelude.{option_and_then}
 use Rattle.std.proofs.lemmas.Bool.Decides.{nat_tests}
-use Rattle.std.proofs.lemmas.List.Elements.{All-nil, All-cons, All-append, All-contains}
+use Rattle.std.proofs.lemmas.List.Elements.{All-nil, All-cons, All-head, All-tail, All-append, All-contains}
 use Rattle.std.proofs.lemmas.Slice.Eq.{bytes_eq-Decides}
 use Rattle.path_grammar.specs.declared.path.NameTest.TheVariants as T
 use Rattle.path_meaning.specs.Elements.{is_same}
@@ -98,3 +98,9 @@ reference-back root r x =
     ap (λ e. reference_or (reference root) (at_place e.place root)) (element-is root r x)
     ∙ ap (reference_or (reference root)) (led root x.spot x.among)
     ∙ x.refers
+
+pub references-back : (root : Numbered) (rs : List NodeRef) → All (IsElement root) rs → map (reference_of root) (map (element_of root) rs) ≡ rs
+references-back root [] h = refl
+references-back root (r ∷ rs) h =
+    ap (λ x. x ∷ map (reference_of root) (map (element_of root) rs)) (reference-back root r (All-head (IsElement root) r rs h))
+    ∙ ap (λ l. r ∷ l) (references-back root rs (All-tail (IsElement root) r rs h))

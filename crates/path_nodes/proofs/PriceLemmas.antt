@@ -6,18 +6,20 @@ use Rattle.std.proofs.lemmas.List.Sums.{sum_by-cons, sum_by-append}
 use Rattle.path_meaning.specs.Elements as el
 use Rattle.path_meaning.specs.Elements.{Element, elements, element_children}
 use Rattle.path_grammar.specs.Form as form
-use Rattle.path_meaning.specs.Meaning.{document, item, children, lists, is_named, stepped, filtered_by}
-use Rattle.path_grammar.specs.View.{step, predicate, condition}
+use Rattle.path_meaning.specs.Meaning.{document, item, children, lists, is_named, stepped, led, filtered_by}
+use Rattle.path_grammar.specs.View.{step, predicate, condition, relative_path}
 use Rattle.path_grammar.specs.declared.path.Step.{Step}
 use Rattle.path_grammar.specs.declared.path.Predicate.{Predicate}
 use Rattle.path_grammar.specs.declared.path.Condition.{Condition}
+use Rattle.path_grammar.specs.declared.path.RelativePath.{RelativePath, out-RelativePath}
 use Rattle.ordered_tree.specs.Numbered.{Numbered, plain}
 use Rattle.ft_base.specs.declared.ids.NodeRef.{NodeRef}
 use Rattle.path_nodes.specs.steps.Kept.{parents}
-use Rattle.path_nodes.specs.Prices.{price_of, steps_price, step_price, predicates_price, list_price, children_price, predicate_price, condition_price, conditions_price}
+use Rattle.path_nodes.specs.Prices.{price_of, steps_price, step_price, predicates_price, list_price, children_price, predicate_price, condition_price, conditions_price, ignored_price}
 use Rattle.path_nodes.specs.References.{IsElement, element_of}
 use Rattle.path_nodes.specs.Says.{Meaning, reference_of, satisfied}
-use Rattle.path_meaning.specs.Tests.{Test, each_tested, step_tests, steps_tests, predicates_tests, predicate_tests, condition_tests, conditions_tests, selected_tests}
+use Rattle.path_meaning.specs.Tests.{Test, each_tested, step_tests, steps_tests, predicates_tests, predicate_tests, condition_tests, conditions_tests, ignored_tests, selected_tests}
+use Rattle.path_nodes.proofs.AskedLemmas.{path-is}
 use Rattle.path_nodes.proofs.MeaningLemmas.{lists-are, items-children}
 use Rattle.path_nodes.proofs.PlaceLemmas.{reference-back}
 
@@ -30,6 +32,12 @@ sum-map f g (x ∷ xs) = sum_by-cons f (g x) (map g xs) ∙ ap (λ n. f (g x) + 
 -- one item, then the rest
 pub sum-next : {A B : Type 0} (f : B → ℕ) (g : A → B) (xs : List A) (i : ℕ) (d : A) → i < length xs → sum_by f (map g (drop i xs)) ≡ f (g (get_or xs i d)) + sum_by f (map g (drop (i + 1) xs))
 sum-next f g xs i d lt = ap (λ l. sum_by f (map g l)) (drop_more xs i d lt) ∙ sum_by-cons f (g (get_or xs i d)) (map g (drop (i + 1) xs))
+
+sum-assoc : (a b c : ℕ) → (a + b) + c ≡ a + (b + c)
+sum-assoc a b c = omega arith
+
+sum-without : (a b c all : ℕ) → b ≡ 0 → a + (b + c) ≡ all → a + c ≡ all
+sum-without a b c all h i = omega arith
 
 -- ---- the price of a part and of the rest
 
@@ -79,6 +87,16 @@ module _ (root : Numbered) (m : Meaning) where
       ap (λ l. conditions_price root m (form.conditions (map condition l)) e) (drop_more xs i d lt)
       ∙ price-append (condition_tests (satisfied root m) (elements (plain root)) (condition (get_or xs i d)) e) (conditions_tests (satisfied root m) (elements (plain root)) (form.conditions (map condition (drop (i + 1) xs))) e)
 
+  pub paths-next : (xs : List RelativePath) (i : ℕ) (d : RelativePath) → i < length xs → (e : Element)
+      → ignored_price root m (form.paths (map relative_path (drop i xs))) e
+      ≡ steps_price root m (form.steps (map step (out-RelativePath (get_or xs i d)).steps)) (e ∷ []) + ignored_price root m (form.paths (map relative_path (drop (i + 1) xs))) e
+  unfolding ignored_tests
+  paths-next xs i d lt e =
+      let rest = form.paths (map relative_path (drop (i + 1) xs)) in
+      ap (λ l. ignored_price root m (form.paths (map relative_path l)) e) (drop_more xs i d lt)
+      ∙ price-append (steps_tests (satisfied root m) (elements (plain root)) (relative_path (get_or xs i d)) (e ∷ [])) (ignored_tests (satisfied root m) (elements (plain root)) rest e)
+      ∙ ap (λ s. steps_price root m s (e ∷ []) + ignored_price root m rest e) (path-is (get_or xs i d))
+
   pub nodes-next : (k : ℕ) (xs : List NodeRef) (i : ℕ) (d : NodeRef) → i < length xs → IsElement root (get_or xs i d)
       → price_of root m (each_tested k (map (element_of root) (drop i xs))) ≡ m.price k (get_or xs i d) + price_of root m (each_tested k (map (element_of root) (drop (i + 1) xs)))
   nodes-next k xs i d lt x =
@@ -94,6 +112,28 @@ module _ (root : Numbered) (m : Meaning) where
       let none = price-none in
       let same = ap (m.price k) (reference-back root r x) in
       omega (arith, first, none, same)
+
+  -- a condition's steps, its ignored paths, and what is tested
+  pub contains-price : (s : form.Steps) (k : ℕ) (paths : form.Paths) (e : Element)
+      → steps_price root m s (e ∷ []) + (ignored_price root m paths e + price_of root m (each_tested k (led (satisfied root m) (elements (plain root)) s (e ∷ []))))
+      ≡ condition_price root m (form.contains s k paths) e
+  unfolding condition_tests
+  contains-price s k paths e =
+      let tested = each_tested k (led (satisfied root m) (elements (plain root)) s (e ∷ [])) in
+      let left = ignored_tests (satisfied root m) (elements (plain root)) paths e in
+      let first = steps_tests (satisfied root m) (elements (plain root)) s (e ∷ []) in
+      sym (
+      price-append (first ++ left) tested
+      ∙ ap (λ n. n + price_of root m tested) (price-append first left)
+      ∙ sum-assoc (price_of root m first) (price_of root m left) (price_of root m tested)
+      )
+
+  -- the same where nothing is ignored
+  pub plain-price : (s : form.Steps) (k : ℕ) (e : Element)
+      → steps_price root m s (e ∷ []) + price_of root m (each_tested k (led (satisfied root m) (elements (plain root)) s (e ∷ [])))
+      ≡ condition_price root m (form.contains s k form.no_paths) e
+  unfolding ignored_tests
+  plain-price s k e = sum-without _ _ _ _ price-none (contains-price s k form.no_paths e)
 
   -- a condition of each item
   pub price-holds : (c : form.Condition) (items : List Element) → sum_by (condition_price root m c) items ≡ predicate_price root m (form.holds c) items

@@ -14,7 +14,7 @@ use Rattle.path_grammar.specs.declared.path.Step as declared
 use Rattle.path_grammar.specs.declared.path.Predicate.{Predicate}
 use Rattle.path_grammar.specs.declared.path.Condition.{Condition}
 use Rattle.path_meaning.specs.Elements.{Element, placed, elements, is_in}
-use Rattle.path_meaning.specs.Meaning.{Context, document, item, lists, is_named, some_element, stepped, led, filtered, filtered_by, is_true, some_true, each_true, selected}
+use Rattle.path_meaning.specs.Meaning.{Context, document, item, lists, is_named, some_element, stepped, led, filtered, filtered_by, is_true, some_true, each_true, ignored, selected}
 use Rattle.path_nodes.specs.Asked.{MayAsk}
 use Rattle.path_nodes.specs.References.{IsElement, spot_reference, element_of}
 use Rattle.path_nodes.specs.Says.{Meaning, reference_of, satisfied}
@@ -45,7 +45,7 @@ module _ (root : Numbered) (m : Meaning) where
   abbrev every : List Element
   every = elements (plain root)
 
-  abbrev sat : ℕ → Element → Bool
+  abbrev sat : ℕ → List Element → Element → Bool
   sat = satisfied root m
 
   from-nothing : (s : form.Step) → stepped sat every s [] ≡ []
@@ -102,7 +102,7 @@ module _ (root : Numbered) (m : Meaning) where
       -- ---- selections and conditions
 
       pub none-there : AllPairs (λ a b. a ≢ b) (references root) → (k : ℕ) → MayAsk root m k
-          → ((r : NodeRef) → IsTrue (m.may_ask k r) → from ≤ (m.span r).from → (m.span r).to ≤ to → m.says k r ≡ false) → HasNone root m from to k
+          → ((r : NodeRef) → IsTrue (m.may_ask k r) → from ≤ (m.span r).from → (m.span r).to ≤ to → m.says k [] r ≡ false) → HasNone root m from to k
       none-there apart k ask none = λ e w.
           let r = spot_reference w.spot in
           let x : IsElement root r = record { spot = w.spot; among = w.among; refers = refl; element = w.element; apart = apart } in
@@ -113,19 +113,19 @@ module _ (root : Numbered) (m : Meaning) where
           let from-is = ap (λ s. s.from) is in
           let to-is = ap (λ s. s.to) is in
           let named : element_of root r ≡ e = element_of-is root w.spot w.among apart ∙ w.is in
-          ap (λ y. m.says k (reference_of root y)) (sym named) ∙ ap (m.says k) (reference-back root r x)
+          ap (λ y. m.says k [] (reference_of root y)) (sym named) ∙ ap (m.says k []) (reference-back root r x)
           ∙ none r may.0 (omega (arith, low, from-is)) (omega (arith, high, to-is))
 
-      pub contains-none : (s : form.Steps) (k : ℕ) → HasNone root m from to k → IsFalse root m from to (form.contains s k)
-      unfolding is_true
+      pub contains-none : (s : form.Steps) (k : ℕ) → HasNone root m from to k → IsFalse root m from to (form.contains s k form.no_paths)
+      unfolding is_true ignored
       contains-none s k none = λ e w.
           let found = led sat every s (e ∷ []) in
           let there = led-within root from to sat s (e ∷ []) (alone e w) in
-          list_any_none (sat k) found (λ j d within. none (get_or found j d) (there j d within))
+          list_any_none (sat k []) found (λ j d within. none (get_or found j d) (there j d within))
 
-      pub contains-nowhere : (s : form.Steps) (k : ℕ) → LeadNowhere root m from to s → IsFalse root m from to (form.contains s k)
+      pub contains-nowhere : (s : form.Steps) (k : ℕ) (paths : form.Paths) → LeadNowhere root m from to s → IsFalse root m from to (form.contains s k paths)
       unfolding is_true
-      contains-nowhere s k h = λ e w. ap (list_any (sat k)) (h.from_elements (e ∷ []) (alone e w))
+      contains-nowhere s k paths h = λ e w. ap (list_any (sat k (ignored sat every paths e))) (h.from_elements (e ∷ []) (alone e w))
 
       pub exists-nowhere : (s : form.Steps) → LeadNowhere root m from to s → IsFalse root m from to (form.exists s)
       unfolding is_true

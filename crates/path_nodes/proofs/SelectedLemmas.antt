@@ -46,7 +46,7 @@ number-short : (e : Element) (k : ℕ) (b : Bool) → Short e (map (λ (c : ℕ 
 number-short e k true = inr refl
 number-short e k false = inl refl
 
-module _ (sat : ℕ → Element → Bool) (all : List Element) (e : Element) where
+module _ (sat : ℕ → List Element → Element → Bool) (all : List Element) (e : Element) where
   by-short : (p : Predicate) → Short e (filtered_by sat all p (e ∷ []))
   unfolding filtered_by
   by-short (form.number k) = number-short e k (k == 1)
@@ -192,7 +192,7 @@ module _ (root : Numbered) (m : Meaning) (d : steps.Step) (r : NodeRef) (x : IsE
 
 -- ---- the first step, then the others
 
-module _ (sat : ℕ → Element → Bool) (root : Node) where
+module _ (sat : ℕ → List Element → Element → Bool) (root : Node) where
   pub selected-none : (xs : List steps.Step) → xs ≡ [] → [] ≡ selected sat (form.steps (map view.step xs)) root
   unfolding selected
   selected-none xs none = sym (ap (λ l. selected sat (form.steps (map view.step l)) root) none)

@@ -96,7 +96,7 @@ module _ (root : Numbered) (from to : ℕ) where
 
   -- ---- what steps lead to from them is among them
 
-  module _ (sat : ℕ → Element → Bool) where
+  module _ (sat : ℕ → List Element → Element → Bool) where
     abbrev every : List Element
     every = elements (plain root)
 

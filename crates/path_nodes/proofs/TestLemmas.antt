@@ -7,13 +7,14 @@ use Rattle.plain_tree.specs.Document.{Node}
 use Rattle.path_meaning.specs.Elements.{Element, elements}
 use Rattle.path_grammar.specs.Form as form
 use Rattle.path_grammar.specs.Form.{Step, step, Steps, no_steps, step_then, Predicate, holds, Predicates, no_predicates, predicate_then, Condition, or_of, and_of, not_of, attribute, exists, contains, Conditions, no_conditions, condition_then}
+use Rattle.path_grammar.specs.Form.{Paths, no_paths, path_then}
 use Rattle.path_meaning.specs.Meaning.{Context, document, item, lists, is_named, stepped, led, filtered_by}
-use Rattle.path_meaning.specs.Tests.{Test, each_tested, step_tests, steps_tests, predicates_tests, predicate_tests, condition_tests, conditions_tests, selected_tests}
+use Rattle.path_meaning.specs.Tests.{Test, each_tested, step_tests, steps_tests, predicates_tests, predicate_tests, condition_tests, conditions_tests, ignored_tests, selected_tests}
 use Rattle.ordered_tree.specs.Numbered.{Numbered, plain}
 use Rattle.ordered_tree.specs.Stands.{references}
 use Rattle.path_nodes.specs.Prices.{price_of, total_price}
 use Rattle.path_nodes.specs.Says.{Agrees, Costs, Meaning, reference_of, satisfied}
-use Rattle.path_nodes.proofs.AlikeLemmas.{In, ContextIn, all-lists-in, by-alike, led-alike, led-in, one, stepped-alike, stepped-in}
+use Rattle.path_nodes.proofs.AlikeLemmas.{In, ContextIn, SayAlike, all-lists-in, by-alike, led-alike, led-in, one, stepped-alike, stepped-in}
 use Rattle.path_nodes.proofs.ChosenLemmas.{by-of}
 use Rattle.path_nodes.proofs.NamedLemmas.{agrees-there, costs-there}
 
@@ -36,9 +37,9 @@ alike-flat root F G (x ∷ xs) h =
     alike-append root (F x) (G x) (flat_map F xs) (flat_map G xs) (All-head (λ x. Alike root (F x) (G x)) x xs h)
     (alike-flat root F G xs (All-tail (λ x. Alike root (F x) (G x)) x xs h))
 
-module _ (f g : ℕ → Element → Bool) (root : Node) (same : All (λ e. (k : ℕ) → f k e ≡ g k e) (elements root)) where
+module _ (f g : ℕ → List Element → Element → Bool) (root : Node) (same : All (SayAlike f g root) (elements root)) where
   mutual
-    unfolding step_tests steps_tests predicates_tests predicate_tests condition_tests conditions_tests
+    unfolding step_tests steps_tests predicates_tests predicate_tests condition_tests conditions_tests ignored_tests
 
     step-tests : (s : Step) (cs : List Context) → All (ContextIn root) cs → Alike root (step_tests f (elements root) s cs) (step_tests g (elements root) s cs)
     step-tests (step deep test ps) cs h =
@@ -78,14 +79,24 @@ module _ (f g : ℕ → Element → Bool) (root : Node) (same : All (λ e. (k : 
     condition-tests (not_of c) e there = condition-tests c e there
     condition-tests (attribute name value) e there = alike-none root
     condition-tests (exists s) e there = steps-tests s (e ∷ []) (one f g root same e there)
-    condition-tests (contains s selection) e there =
+    condition-tests (contains s selection paths) e there =
         let only = one f g root same e there in
         let found = led g (elements root) s (e ∷ []) in
-        alike-append root (steps_tests f (elements root) s (e ∷ [])) (steps_tests g (elements root) s (e ∷ []))
-        (each_tested selection (led f (elements root) s (e ∷ []))) (each_tested selection found) (steps-tests s (e ∷ []) only) (
+        let tested = each_tested selection (led f (elements root) s (e ∷ [])) in
+        alike-append root (steps_tests f (elements root) s (e ∷ []) ++ ignored_tests f (elements root) paths e) (steps_tests g (elements root) s (e ∷ []) ++ ignored_tests g (elements root) paths e)
+        tested (each_tested selection found)
+        (alike-append root (steps_tests f (elements root) s (e ∷ [])) (steps_tests g (elements root) s (e ∷ [])) (ignored_tests f (elements root) paths e) (ignored_tests g (elements root) paths e)
+        (steps-tests s (e ∷ []) only) (ignored-tests paths e there)) (
           ap (each_tested selection) (led-alike f g root same s (e ∷ []) only),
           All-map (TestIn root) (λ x. record { selection = selection; element = x }) found (led-in f g root same s (e ∷ []) only),
         )
+
+    ignored-tests : (paths : Paths) (e : Element) → In root e → Alike root (ignored_tests f (elements root) paths e) (ignored_tests g (elements root) paths e)
+    ignored-tests no_paths e there = alike-none root
+    ignored-tests (path_then path rest) e there =
+        alike-append root (steps_tests f (elements root) path (e ∷ [])) (steps_tests g (elements root) path (e ∷ []))
+        (ignored_tests f (elements root) rest e) (ignored_tests g (elements root) rest e)
+        (steps-tests path (e ∷ []) (one f g root same e there)) (ignored-tests rest e there)
 
     conditions-tests : (cs : Conditions) (e : Element) → In root e → Alike root (conditions_tests f (elements root) cs e) (conditions_tests g (elements root) cs e)
     conditions-tests no_conditions e there = alike-none root
@@ -116,7 +127,7 @@ totals-alike p q root same (t ∷ ts) h =
     ∙ sym (sum_by-cons (λ t. q t.selection t.element) t ts)
 
 -- the prices of the tests for which steps ask, in the words of a caller that names no references
-module _ (root : Numbered) (m : Meaning) (sat : ℕ → Element → Bool) (price : ℕ → Element → ℕ) where
+module _ (root : Numbered) (m : Meaning) (sat : ℕ → List Element → Element → Bool) (price : ℕ → Element → ℕ) where
   price-of-total : (ts : List Test) → price_of root m ts ≡ total_price (λ k e. m.price k (reference_of root e)) ts
   unfolding price_of
   price-of-total ts = refl

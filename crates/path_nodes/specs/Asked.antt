@@ -2,6 +2,7 @@
 use Rattle.std.specs.Prelude.{◌≡◌, ℕ, IsTrue}
 use Rattle.path_grammar.specs.Form.{Step, step, Steps, no_steps, step_then, Predicate, number, holds, Predicates, no_predicates, predicate_then}
 use Rattle.path_grammar.specs.Form.{Condition, or_of, and_of, not_of, attribute, exists, contains, Conditions, no_conditions, condition_then}
+use Rattle.path_grammar.specs.Form.{Paths, no_paths, path_then}
 use Rattle.ordered_tree.specs.Numbered.{Numbered}
 use Rattle.ordered_tree.specs.Stands.{OnNode, span}
 use Rattle.ft_base.specs.declared.ids.NodeRef.{NodeRef}
@@ -31,11 +32,15 @@ unfoldable mutual
   OfCondition P (not_of condition) = OfCondition P condition
   OfCondition P (attribute name value) = Unit {0}
   OfCondition P (exists steps) = OfEach P steps
-  OfCondition P (contains steps selection) = OfEach P steps × P selection
+  OfCondition P (contains steps selection paths) = OfEach P steps × P selection × OfPaths P paths
 
   pub OfConditions : (ℕ → Type 0) → Conditions → Type 0
   OfConditions P no_conditions = Unit {0}
   OfConditions P (condition_then condition rest) = OfCondition P condition × OfConditions P rest
+
+  pub OfPaths : (ℕ → Type 0) → Paths → Type 0
+  OfPaths P no_paths = Unit {0}
+  OfPaths P (path_then path rest) = OfEach P path × OfPaths P rest
 
 -- A test may be asked whether each element of the document satisfies the selection of this number, and knows where its words stand.
 abbrev pub MayAsk : Numbered → Meaning → ℕ → Type 0

@@ -2,10 +2,10 @@
 use Rattle.std.specs.Prelude.{ℕ, List, filter, sum_by}
 use Rattle.ordered_tree.specs.Numbered.{Numbered, plain}
 use Rattle.path_meaning.specs.Elements.{Element, elements, element_children}
-use Rattle.path_grammar.specs.Form.{Step, step, Steps, Predicates, Predicate, Condition, Conditions}
+use Rattle.path_grammar.specs.Form.{Step, step, Steps, Predicates, Predicate, Condition, Conditions, Paths}
 use Rattle.path_meaning.specs.Meaning.{Context, is_named}
 use Rattle.path_nodes.specs.Says.{Meaning, reference_of, satisfied}
-use Rattle.path_meaning.specs.Tests.{Test, step_tests, steps_tests, predicates_tests, predicate_tests, condition_tests, conditions_tests}
+use Rattle.path_meaning.specs.Tests.{Test, step_tests, steps_tests, predicates_tests, predicate_tests, condition_tests, conditions_tests, ignored_tests}
 
 -- the sum of the tests' prices
 unfoldable pub price_of : Numbered → Meaning → List Test → ℕ
@@ -45,3 +45,7 @@ condition_price root m condition e = price_of root m (condition_tests (satisfied
 
 abbrev pub conditions_price : Numbered → Meaning → Conditions → Element → ℕ
 conditions_price root m conditions e = price_of root m (conditions_tests (satisfied root m) (elements (plain root)) conditions e)
+
+-- of the paths to what is ignored of an element
+abbrev pub ignored_price : Numbered → Meaning → Paths → Element → ℕ
+ignored_price root m paths e = price_of root m (ignored_tests (satisfied root m) (elements (plain root)) paths e)

@@ -1,6 +1,7 @@
 pub mod Kept
 pub mod Known
 pub mod Leading
+pub mod Lent
 pub mod Marks
 pub mod Members
 pub mod Offered

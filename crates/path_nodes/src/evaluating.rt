@@ -1,6 +1,6 @@
 //! What the steps, predicates and conditions of a path say of elements.
 
-ghost use Rattle.std.specs.Prelude.{◌≡◌, ◌≤◌, ◌+◌, ◌∷◌, [], true, false, if◌then◌else◌};
+ghost use Rattle.std.specs.Prelude.{◌≡◌, ◌≤◌, ◌+◌, ◌∷◌, [], ◌++◌, true, false, if◌then◌else◌};
 ghost use Rattle.std.specs.Prelude.{All, AllPairs, IfOk, OnOk, filter, flat_map, length, map, sum_by};
 ghost use Rattle.std.specs.List.{list_any};
 ghost use Rattle.ordered_tree.specs.Numbered.{plain};
@@ -9,9 +9,9 @@ ghost use Rattle.path_meaning.specs.Order.{Before};
 ghost use Rattle.path_grammar.specs.Form as form;
 ghost use Rattle.path_meaning.specs.Meaning as meaning;
 ghost use Rattle.path_grammar.specs.View as view;
-ghost use Rattle.path_nodes.specs.Asked.{OfEach, OfStep, OfPredicate, OfCondition, OfConditions, MayAsk};
+ghost use Rattle.path_nodes.specs.Asked.{OfEach, OfStep, OfPredicate, OfCondition, OfConditions, OfPaths, MayAsk};
 ghost use Rattle.path_nodes.specs.steps.Known.{AreRight};
-ghost use Rattle.path_nodes.specs.steps.Leading.{StandFrom, in_path, in_step, in_steps, in_predicate, in_condition, in_conditions};
+ghost use Rattle.path_nodes.specs.steps.Leading.{StandFrom, in_path, in_step, in_steps, in_predicate, in_condition, in_conditions, in_paths};
 ghost use Rattle.path_nodes.specs.steps.Kept as spec;
 ghost use Rattle.path_nodes.specs.Prices as price;
 ghost use Rattle.path_nodes.specs.References.{IsElement, element_of};
@@ -24,22 +24,24 @@ use crate::attributes::has_attribute;
 use crate::children::element_children;
 use crate::kept::push_if;
 use crate::known::Known;
-use crate::leading::{after_condition, after_predicate, after_step, next};
-use crate::marks::{Marks, mark_kept};
+use crate::leading::{
+    after_condition, after_paths, after_predicate, after_step, after_steps, next,
+};
+use crate::marks::{Marks, mark_found, mark_kept};
 use crate::names::{ReadyTest, named};
 use crate::numbers::numbered;
 use crate::offering::Offering;
 use crate::outermost::outermost;
-use crate::walks::{add_marked, with_descendants};
-use crate::{Nodes, TextTest};
+use crate::walks::{add_marked, marked_from, with_descendants};
+use crate::{HoleTest, Nodes};
 use ft_base::{Items, Memory};
 use ordered_tree::{DocTree, NodeRef};
-use path_grammar::{Condition, Predicate, Step};
+use path_grammar::{Condition, Predicate, RelativePaths, Step};
 use std::alloc::Global;
 
 /// The elements to which steps lead from elements at or below an element, one step after the other.
 #[cycle(evaluate)]
-pub(crate) fn led<T: TextTest>(
+pub(crate) fn led<T: HoleTest>(
     tree: &DocTree,
     steps: &[Step],
     number: usize,
@@ -59,6 +61,7 @@ pub(crate) fn led<T: TextTest>(
         ≡ meaning.led (satisfied tree.now.root (T.meaning test.old)) (elements (plain tree.now.root)) (form.steps (map view.step steps.now))
         (map (element_of tree.now.root) from)) }
     ensures there { IfOk result (All (IsElement tree.now.root)) }
+    ensures inside { IfOk result (All (λ r. AtOrBelow (element_of tree.now.root base) (element_of tree.now.root r))) }
     ensures meaning { T.meaning test.new ≡ T.meaning test.old }
     ensures path { known.new.path ≡ known.old.path }
     ensures known { OnOk result (AreRight tree.now.root (T.meaning test.old) (in_path known.old.path.now) known.new.truths) }
@@ -78,7 +81,7 @@ pub(crate) fn led<T: TextTest>(
 /// The elements to which a step leads from elements at or below an element. One pass in document order decides it, unless the
 /// step has a number, which counts the children of each parent, or the children of one context may stand among those of another.
 #[cycle(evaluate)]
-pub(crate) fn stepped<T: TextTest>(
+pub(crate) fn stepped<T: HoleTest>(
     tree: &DocTree,
     step: &Step,
     number: usize,
@@ -149,7 +152,7 @@ fn is_number(predicate: &Predicate) -> bool
 
 /// The elements that a step without numbers keeps of what elements offer it none of which stands below another.
 #[cycle(evaluate)]
-fn chosen_in_order<T: TextTest>(
+fn chosen_in_order<T: HoleTest>(
     tree: &DocTree,
     step: &Step,
     number: usize,
@@ -189,7 +192,7 @@ fn chosen_in_order<T: TextTest>(
 
 /// Whether an element passes the predicates of a step that has no numbers. Those after the first one that it doesn't pass aren't asked.
 #[cycle(evaluate)]
-fn passes<T: TextTest>(
+fn passes<T: HoleTest>(
     tree: &DocTree,
     step: &Step,
     number: usize,
@@ -226,7 +229,7 @@ fn passes<T: TextTest>(
 
 /// Whether an element passes a predicate; numbers aren't asked of one element by itself.
 #[cycle(evaluate)]
-fn passes_by<T: TextTest>(
+fn passes_by<T: HoleTest>(
     tree: &DocTree,
     predicate: &Predicate,
     number: usize,
@@ -278,7 +281,7 @@ fn parents_of(
 
 /// The elements that a step keeps of the children of each parent, in document order.
 #[cycle(evaluate)]
-fn chosen<T: TextTest>(
+fn chosen<T: HoleTest>(
     tree: &DocTree,
     step: &Step,
     number: usize,
@@ -318,7 +321,7 @@ fn chosen<T: TextTest>(
 
 /// The elements that a step keeps of the children of an element.
 #[cycle(evaluate)]
-fn kept_children<T: TextTest>(
+fn kept_children<T: HoleTest>(
     tree: &DocTree,
     step: &Step,
     number: usize,
@@ -345,7 +348,7 @@ fn kept_children<T: TextTest>(
 
 /// The elements of a list that pass the step's test of names and then its predicates.
 #[cycle(evaluate)]
-pub(crate) fn kept<T: TextTest>(
+pub(crate) fn kept<T: HoleTest>(
     tree: &DocTree,
     step: &Step,
     number: usize,
@@ -372,7 +375,7 @@ pub(crate) fn kept<T: TextTest>(
 
 /// The elements of a list that pass the predicates of a step, each of which sees what those before it have left.
 #[cycle(evaluate)]
-fn passed<T: TextTest>(
+fn passed<T: HoleTest>(
     tree: &DocTree,
     step: &Step,
     number: usize,
@@ -408,7 +411,7 @@ fn passed<T: TextTest>(
 
 /// The elements of a list that pass a predicate.
 #[cycle(evaluate)]
-fn filtered<T: TextTest>(
+fn filtered<T: HoleTest>(
     tree: &DocTree,
     predicate: &Predicate,
     number: usize,
@@ -438,7 +441,7 @@ fn filtered<T: TextTest>(
 
 /// The elements of a list of which a condition is true.
 #[cycle(evaluate)]
-fn satisfying<T: TextTest>(
+fn satisfying<T: HoleTest>(
     tree: &DocTree,
     condition: &Condition,
     number: usize,
@@ -472,7 +475,7 @@ fn satisfying<T: TextTest>(
 
 /// Whether a condition is true of an element.
 #[cycle(evaluate)]
-fn is_true<T: TextTest>(
+fn is_true<T: HoleTest>(
     tree: &DocTree,
     condition: &Condition,
     number: usize,
@@ -499,15 +502,28 @@ fn is_true<T: TextTest>(
         Condition::Not(operand) => Ok(!is_true(tree, operand, number, item, test, known)?),
         Condition::Attribute { name, value } => Ok(has_attribute(tree, item, name, value)),
         Condition::Exists(steps) => exists(tree, steps, number, item, test, known),
-        Condition::Contains { steps, selection } => {
-            contains_text(tree, steps, number, *selection, item, test, known)
+        Condition::Contains {
+            steps,
+            selection,
+            ignored,
+        } => {
+            if ignored.is_empty() {
+                return contains_text(tree, steps, number, *selection, item, test, known);
+            }
+            if let Some(truth) = known.truth(number, item) {
+                return Ok(truth);
+            }
+            let nodes = led_past(tree, steps, ignored, number, item, test, known)?;
+            satisfies_left(
+                tree, ignored, steps, *selection, number, item, &nodes, test, known,
+            )
         }
     }
 }
 
 /// The elements to which steps lead from an element, in document order, each once.
 #[cycle(evaluate)]
-fn led_from<T: TextTest>(
+fn led_from<T: HoleTest>(
     tree: &DocTree,
     steps: &Items<Step>,
     number: usize,
@@ -523,6 +539,7 @@ fn led_from<T: TextTest>(
         ≡ meaning.led (satisfied tree.now.root (T.meaning test.old)) (elements (plain tree.now.root)) (form.steps (map view.step steps.now))
         (element_of tree.now.root item ∷ [])) }
     ensures there { IfOk result (All (IsElement tree.now.root)) }
+    ensures inside { IfOk result (All (λ r. AtOrBelow (element_of tree.now.root item) (element_of tree.now.root r))) }
     ensures meaning { T.meaning test.new ≡ T.meaning test.old }
     ensures path { known.new.path ≡ known.old.path }
     ensures known { OnOk result (AreRight tree.now.root (T.meaning test.old) (in_path known.old.path.now) known.new.truths) }
@@ -539,7 +556,7 @@ fn led_from<T: TextTest>(
 /// The truth of conditions that are joined: by `or` where a true one decides it, by `and` where a false one does. Those after
 /// the first one that decides aren't looked at.
 #[cycle(evaluate)]
-fn joined<T: TextTest>(
+fn joined<T: HoleTest>(
     tree: &DocTree,
     conditions: &Items<Condition>,
     number: usize,
@@ -575,7 +592,7 @@ fn joined<T: TextTest>(
 
 /// Whether steps lead from an element to some.
 #[cycle(evaluate)]
-fn exists<T: TextTest>(
+fn exists<T: HoleTest>(
     tree: &DocTree,
     steps: &Items<Step>,
     number: usize,
@@ -607,7 +624,7 @@ fn exists<T: TextTest>(
 
 /// Whether one of the elements to which steps lead from an element satisfies a selection.
 #[cycle(evaluate)]
-fn contains_text<T: TextTest>(
+fn contains_text<T: HoleTest>(
     tree: &DocTree,
     steps: &Items<Step>,
     number: usize,
@@ -619,10 +636,11 @@ fn contains_text<T: TextTest>(
     requires item { IsElement tree.now.root item }
     requires asked { OfEach (MayAsk tree.now.root (T.meaning test.old)) (form.steps (map view.step steps.now)) }
     requires text { MayAsk tree.now.root (T.meaning test.old) selection }
-    requires numbered { StandFrom (in_path known.old.path.now) number (in_condition (form.contains (form.steps (map view.step steps.now)) selection)) }
+    requires numbered { StandFrom (in_path known.old.path.now) number
+        (in_condition (form.contains (form.steps (map view.step steps.now)) selection form.no_paths)) }
     requires known { AreRight tree.now.root (T.meaning test.old) (in_path known.old.path.now) known.old.truths }
     ensures truth { IfOk result (λ truth. truth
-        ≡ list_any (satisfied tree.now.root (T.meaning test.old) selection) (meaning.led (satisfied tree.now.root (T.meaning test.old))
+        ≡ list_any (satisfied tree.now.root (T.meaning test.old) selection []) (meaning.led (satisfied tree.now.root (T.meaning test.old))
         (elements (plain tree.now.root)) (form.steps (map view.step steps.now)) (element_of tree.now.root item ∷ []))) }
     ensures meaning { T.meaning test.new ≡ T.meaning test.old }
     ensures path { known.new.path ≡ known.old.path }
@@ -641,13 +659,164 @@ fn contains_text<T: TextTest>(
         return Ok(truth);
     }
     let nodes = led_from(tree, steps, next(number)?, item, test, known)?;
-    let truth = some_contains(tree, selection, &nodes, test)?;
+    let none = Nodes::new(known.alloc);
+    let truth = some_contains(tree, selection, &none, &nodes, test)?;
     known.keep(number, item, truth)?;
     Ok(truth)
 }
 
+/// The elements to which the steps of a condition of this number lead from an element, where the condition ignores what paths lead to.
+#[cycle(evaluate)]
+fn led_past<T: HoleTest>(
+    tree: &DocTree,
+    steps: &Items<Step>,
+    paths: &RelativePaths,
+    number: usize,
+    item: NodeRef,
+    test: &mut T,
+    known: &mut Known,
+) -> Result<Nodes, Memory>
+    requires item { IsElement tree.now.root item }
+    requires asked { OfEach (MayAsk tree.now.root (T.meaning test.old)) (form.steps (map view.step steps.now)) }
+    requires numbered { StandFrom (in_path known.old.path.now) (number + 1)
+        (in_paths (form.paths (map view.relative_path paths.now)) ++ in_steps (form.steps (map view.step steps.now))) }
+    requires known { AreRight tree.now.root (T.meaning test.old) (in_path known.old.path.now) known.old.truths }
+    ensures elements { IfOk result (λ found. map (element_of tree.now.root) found
+        ≡ meaning.led (satisfied tree.now.root (T.meaning test.old)) (elements (plain tree.now.root)) (form.steps (map view.step steps.now))
+        (element_of tree.now.root item ∷ [])) }
+    ensures there { IfOk result (All (IsElement tree.now.root)) }
+    ensures meaning { T.meaning test.new ≡ T.meaning test.old }
+    ensures path { known.new.path ≡ known.old.path }
+    ensures known { OnOk result (AreRight tree.now.root (T.meaning test.old) (in_path known.old.path.now) known.new.truths) }
+    ensures cost { T.cost test.new
+        ≤ T.cost test.old + price.steps_price tree.now.root (T.meaning test.old) (form.steps (map view.step steps.now)) (element_of tree.now.root item ∷ []) }
+{
+    let first = next(number)?;
+    let inside = after_paths(first, paths)?;
+    led_from(tree, steps, inside, item, test, known)
+}
+
+/// Whether one of the elements to which the steps of a condition lead from an element satisfies a selection, when what the condition ignores of the
+/// element is taken out of it.
+#[cycle(evaluate)]
+fn satisfies_left<T: HoleTest>(
+    tree: &DocTree,
+    paths: &RelativePaths,
+    steps: &Items<Step>,
+    selection: usize,
+    number: usize,
+    item: NodeRef,
+    nodes: &Nodes,
+    test: &mut T,
+    known: &mut Known,
+) -> Result<bool, Memory>
+    requires item { IsElement tree.now.root item }
+    requires nodes { All (IsElement tree.now.root) nodes.now }
+    requires led { map (element_of tree.now.root) nodes.now
+        ≡ meaning.led (satisfied tree.now.root (T.meaning test.old)) (elements (plain tree.now.root)) (form.steps (map view.step steps.now))
+        (element_of tree.now.root item ∷ []) }
+    requires text { MayAsk tree.now.root (T.meaning test.old) selection }
+    requires asked { OfPaths (MayAsk tree.now.root (T.meaning test.old)) (form.paths (map view.relative_path paths.now)) }
+    requires numbered { StandFrom (in_path known.old.path.now) number
+        (in_condition (form.contains (form.steps (map view.step steps.now)) selection (form.paths (map view.relative_path paths.now)))) }
+    requires known { AreRight tree.now.root (T.meaning test.old) (in_path known.old.path.now) known.old.truths }
+    ensures truth { IfOk result (λ truth. truth
+        ≡ meaning.is_true (satisfied tree.now.root (T.meaning test.old)) (elements (plain tree.now.root))
+        (form.contains (form.steps (map view.step steps.now)) selection (form.paths (map view.relative_path paths.now)))
+        (element_of tree.now.root item)) }
+    ensures meaning { T.meaning test.new ≡ T.meaning test.old }
+    ensures path { known.new.path ≡ known.old.path }
+    ensures known { OnOk result (AreRight tree.now.root (T.meaning test.old) (in_path known.old.path.now) known.new.truths) }
+    ensures cost { T.cost test.new
+        ≤ T.cost test.old
+        + (price.ignored_price tree.now.root (T.meaning test.old) (form.paths (map view.relative_path paths.now)) (element_of tree.now.root item)
+        + price.price_of tree.now.root (T.meaning test.old) (each_tested selection (map (element_of tree.now.root) nodes.now))) }
+{
+    let first = next(number)?;
+    let truth = some_satisfies(tree, paths, selection, first, item, nodes, test, known)?;
+    known.keep(number, item, truth)?;
+    Ok(truth)
+}
+
+/// Whether one of the elements satisfies a selection, when what paths from an item lead to is taken out of it. That is looked for where there are
+/// elements at all.
+#[cycle(evaluate)]
+fn some_satisfies<T: HoleTest>(
+    tree: &DocTree,
+    paths: &RelativePaths,
+    selection: usize,
+    number: usize,
+    item: NodeRef,
+    nodes: &Nodes,
+    test: &mut T,
+    known: &mut Known,
+) -> Result<bool, Memory>
+    requires item { IsElement tree.now.root item }
+    requires nodes { All (IsElement tree.now.root) nodes.now }
+    requires text { MayAsk tree.now.root (T.meaning test.old) selection }
+    requires asked { OfPaths (MayAsk tree.now.root (T.meaning test.old)) (form.paths (map view.relative_path paths.now)) }
+    requires numbered { StandFrom (in_path known.old.path.now) number (in_paths (form.paths (map view.relative_path paths.now))) }
+    requires known { AreRight tree.now.root (T.meaning test.old) (in_path known.old.path.now) known.old.truths }
+    ensures truth { IfOk result (λ truth. truth
+        ≡ list_any (satisfied tree.now.root (T.meaning test.old) selection (meaning.ignored (satisfied tree.now.root (T.meaning test.old))
+        (elements (plain tree.now.root)) (form.paths (map view.relative_path paths.now)) (element_of tree.now.root item)))
+        (map (element_of tree.now.root) nodes.now)) }
+    ensures meaning { T.meaning test.new ≡ T.meaning test.old }
+    ensures path { known.new.path ≡ known.old.path }
+    ensures known { OnOk result (AreRight tree.now.root (T.meaning test.old) (in_path known.old.path.now) known.new.truths) }
+    ensures cost { T.cost test.new
+        ≤ T.cost test.old
+        + (price.ignored_price tree.now.root (T.meaning test.old) (form.paths (map view.relative_path paths.now)) (element_of tree.now.root item)
+        + price.price_of tree.now.root (T.meaning test.old) (each_tested selection (map (element_of tree.now.root) nodes.now))) }
+{
+    if nodes.is_empty() {
+        return Ok(false);
+    }
+    let holes = ignored(tree, paths, number, item, test, known)?;
+    let truth = some_contains(tree, selection, &holes, nodes, test)?;
+    Ok(truth)
+}
+
+/// What is ignored of an item: the elements to which one of the paths leads from it, in document order, each once.
+#[cycle(evaluate)]
+fn ignored<T: HoleTest>(
+    tree: &DocTree,
+    paths: &RelativePaths,
+    number: usize,
+    item: NodeRef,
+    test: &mut T,
+    known: &mut Known,
+) -> Result<Nodes, Memory>
+    requires item { IsElement tree.now.root item }
+    requires asked { OfPaths (MayAsk tree.now.root (T.meaning test.old)) (form.paths (map view.relative_path paths.now)) }
+    requires numbered { StandFrom (in_path known.old.path.now) number (in_paths (form.paths (map view.relative_path paths.now))) }
+    requires known { AreRight tree.now.root (T.meaning test.old) (in_path known.old.path.now) known.old.truths }
+    ensures elements { IfOk result (λ found. map (element_of tree.now.root) found
+        ≡ meaning.ignored (satisfied tree.now.root (T.meaning test.old)) (elements (plain tree.now.root))
+        (form.paths (map view.relative_path paths.now)) (element_of tree.now.root item)) }
+    ensures there { IfOk result (All (IsElement tree.now.root)) }
+    ensures meaning { T.meaning test.new ≡ T.meaning test.old }
+    ensures path { known.new.path ≡ known.old.path }
+    ensures known { OnOk result (AreRight tree.now.root (T.meaning test.old) (in_path known.old.path.now) known.new.truths) }
+    ensures cost { T.cost test.new
+        ≤ T.cost test.old
+        + price.ignored_price tree.now.root (T.meaning test.old) (form.paths (map view.relative_path paths.now)) (element_of tree.now.root item) }
+{
+    let mut marks = Marks::new(known.alloc);
+    let mut ways = Marks::new(known.alloc);
+    let mut first = number;
+    for path in paths.as_slice() {
+        let after = after_steps(first, &path.steps)?;
+        let found = led_from(tree, &path.steps, first, item, test, known)?;
+        mark_found(tree, &found, &mut marks, &mut ways)?;
+        first = after;
+    }
+    let nodes = marked_from(known.alloc, tree, item, &marks, &ways)?;
+    Ok(nodes)
+}
+
 /// Whether an element itself satisfies a selection.
-fn itself_contains<T: TextTest>(
+fn itself_contains<T: HoleTest>(
     tree: &DocTree,
     selection: usize,
     item: NodeRef,
@@ -655,7 +824,7 @@ fn itself_contains<T: TextTest>(
 ) -> Result<bool, Memory>
     requires item { IsElement tree.now.root item }
     requires asked { MayAsk tree.now.root (T.meaning test.old) selection }
-    ensures truth { IfOk result (λ truth. truth ≡ satisfied tree.now.root (T.meaning test.old) selection (element_of tree.now.root item)) }
+    ensures truth { IfOk result (λ truth. truth ≡ satisfied tree.now.root (T.meaning test.old) selection [] (element_of tree.now.root item)) }
     ensures meaning { T.meaning test.new ≡ T.meaning test.old }
     ensures cost { T.cost test.new
         ≤ T.cost test.old + price.price_of tree.now.root (T.meaning test.old) (each_tested selection (element_of tree.now.root item ∷ [])) }
@@ -664,24 +833,50 @@ fn itself_contains<T: TextTest>(
     test.contains(selection, item)
 }
 
-/// Whether one of the elements satisfies a selection; those after it aren't asked for.
-fn some_contains<T: TextTest>(
+/// Whether an element satisfies a selection when what the holes have is taken out of it.
+fn contains_without<T: HoleTest>(
     tree: &DocTree,
     selection: usize,
+    holes: &Nodes,
+    item: NodeRef,
+    test: &mut T,
+) -> Result<bool, Memory>
+    requires item { IsElement tree.now.root item }
+    requires holes { All (IsElement tree.now.root) holes.now }
+    requires asked { MayAsk tree.now.root (T.meaning test.old) selection }
+    ensures truth { IfOk result (λ truth. truth
+        ≡ satisfied tree.now.root (T.meaning test.old) selection (map (element_of tree.now.root) holes.now) (element_of tree.now.root item)) }
+    ensures meaning { T.meaning test.new ≡ T.meaning test.old }
+    ensures cost { T.cost test.new
+        ≤ T.cost test.old + price.price_of tree.now.root (T.meaning test.old) (each_tested selection (element_of tree.now.root item ∷ [])) }
+{
+    if holes.is_empty() {
+        return itself_contains(tree, selection, item, test);
+    }
+    let _root = tree.root();
+    test.contains_without(selection, item, holes)
+}
+
+/// Whether one of the elements satisfies a selection when what the holes have is taken out of it; those after it aren't asked for.
+fn some_contains<T: HoleTest>(
+    tree: &DocTree,
+    selection: usize,
+    holes: &Nodes,
     nodes: &Nodes,
     test: &mut T,
 ) -> Result<bool, Memory>
     requires nodes { All (IsElement tree.now.root) nodes.now }
+    requires holes { All (IsElement tree.now.root) holes.now }
     requires asked { MayAsk tree.now.root (T.meaning test.old) selection }
     ensures truth { IfOk result (λ truth. truth
-        ≡ list_any (satisfied tree.now.root (T.meaning test.old) selection) (map (element_of tree.now.root) nodes.now)) }
+        ≡ list_any (satisfied tree.now.root (T.meaning test.old) selection (map (element_of tree.now.root) holes.now))
+        (map (element_of tree.now.root) nodes.now)) }
     ensures meaning { T.meaning test.new ≡ T.meaning test.old }
     ensures cost { T.cost test.new
         ≤ T.cost test.old + price.price_of tree.now.root (T.meaning test.old) (each_tested selection (map (element_of tree.now.root) nodes.now)) }
 {
-    let _root = tree.root();
     for node in nodes.as_slice() {
-        if test.contains(selection, *node)? {
+        if contains_without(tree, selection, holes, *node, test)? {
             return Ok(true);
         }
     }

@@ -1,13 +1,13 @@
 //! The numbers of the conditions of a path that lead somewhere: they count from 0, in the order of the path, and each condition
-//! stands before those inside its steps.
+//! stands before those inside its steps, those of ignored paths first.
 
 ghost use Rattle.std.specs.Prelude.{◌≡◌, ◌+◌, suc, IfOk, length, map};
 ghost use Rattle.path_grammar.specs.Form as form;
 ghost use Rattle.path_grammar.specs.View as view;
-ghost use Rattle.path_nodes.specs.steps.Leading.{in_step, in_steps, in_predicate, in_condition, in_conditions};
+ghost use Rattle.path_nodes.specs.steps.Leading.{in_step, in_steps, in_predicate, in_condition, in_conditions, in_paths};
 
 use ft_base::{Items, Memory};
-use path_grammar::{Condition, Predicate, Step};
+use path_grammar::{Condition, Predicate, RelativePaths, Step};
 
 /// The number after a number.
 pub(crate) fn next(number: usize) -> Result<usize, Memory>
@@ -53,7 +53,11 @@ pub(crate) fn after_condition(number: usize, condition: &Condition) -> Result<us
         Condition::Not(operand) => after_condition(number, operand),
         Condition::Attribute { .. } => Ok(number),
         Condition::Exists(steps) => after_leading(number, steps),
-        Condition::Contains { steps, .. } => after_leading(number, steps),
+        Condition::Contains { steps, ignored, .. } => {
+            let inside = next(number)?;
+            let between = after_paths(inside, ignored)?;
+            after_steps(between, steps)
+        }
     }
 }
 
@@ -79,9 +83,21 @@ fn after_conditions(number: usize, conditions: &Items<Condition>) -> Result<usiz
     Ok(after)
 }
 
+/// The number after those of paths.
+#[cycle(after)]
+pub(crate) fn after_paths(number: usize, paths: &RelativePaths) -> Result<usize, Memory>
+    ensures { IfOk result (λ after. after ≡ number + length (in_paths (form.paths (map view.relative_path paths.now)))) }
+{
+    let mut after = number;
+    for path in paths.as_slice() {
+        after = after_steps(after, &path.steps)?;
+    }
+    Ok(after)
+}
+
 /// The number after those of steps.
 #[cycle(after)]
-fn after_steps(number: usize, steps: &Items<Step>) -> Result<usize, Memory>
+pub(crate) fn after_steps(number: usize, steps: &Items<Step>) -> Result<usize, Memory>
     ensures { IfOk result (λ after. after ≡ number + length (in_steps (form.steps (map view.step steps.now)))) }
 {
     let mut after = number;

@@ -17,11 +17,12 @@ mod ruling_out;
 mod selected;
 mod skipping;
 mod walks;
+mod without_holes;
 
-pub use contains_text::TextTest;
+pub use contains_text::{HoleTest, TextTest};
 use ft_base::Items;
 use ordered_tree::NodeRef;
-pub use selected::nodes;
+pub use selected::{nodes, nodes_without};
 
 /// References of elements, in the order in which they were found.
 pub type Nodes = Items<NodeRef>;

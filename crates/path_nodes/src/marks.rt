@@ -62,6 +62,39 @@ pub(crate) fn mark_kept(
     mark_way_to(tree, ways, parent, kept)
 }
 
+/// Marks the elements of a list, and the way to them.
+pub(crate) fn mark_found(
+    tree: &DocTree,
+    found: &Nodes,
+    marks: &mut Marks,
+    ways: &mut Marks,
+) -> Result<(), Memory>
+    requires found { All (IsElement tree.now.root) found.now }
+    requires ways { AreWays tree.now.root ways.old }
+    ensures marks { OnOk result ((r : NodeRef) → IsElement tree.now.root r
+        → is_marked marks.new r ≡ (list_any (is_same (element_of tree.now.root r)) (map (element_of tree.now.root) found.now) || is_marked marks.old r)) }
+    ensures ways { OnOk result (AreWays tree.now.root ways.new) }
+    ensures more { OnOk result ((r : NodeRef) → is_marked ways.old r ≡ true → is_marked ways.new r ≡ true) }
+    ensures there { OnOk result (All (λ r. is_marked ways.new r ≡ true) found.now) }
+{
+    mark_all(tree, marks, found)?;
+    mark_ways(tree, ways, found)
+}
+
+/// Marks elements and all elements above them.
+fn mark_ways(tree: &DocTree, ways: &mut Marks, nodes: &Nodes) -> Result<(), Memory>
+    requires nodes { All (IsElement tree.now.root) nodes.now }
+    requires ways { AreWays tree.now.root ways.old }
+    ensures ways { OnOk result (AreWays tree.now.root ways.new) }
+    ensures more { OnOk result ((r : NodeRef) → is_marked ways.old r ≡ true → is_marked ways.new r ≡ true) }
+    ensures there { OnOk result (All (λ r. is_marked ways.new r ≡ true) nodes.now) }
+{
+    for node in nodes.as_slice() {
+        mark_way(tree, ways, *node)?;
+    }
+    Ok(())
+}
+
 /// Marks an element, of whose children some were kept, and all elements above it.
 fn mark_way_to(
     tree: &DocTree,

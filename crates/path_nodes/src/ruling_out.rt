@@ -13,7 +13,7 @@ ghost use Rattle.path_nodes.specs.steps.RuledOut.{HasNone, IsFalse, KeepNothing,
 use crate::TextTest;
 use ft_base::Items;
 use ordered_tree::DocTree;
-use path_grammar::{Condition, Predicate, Predicates, Step, Steps};
+use path_grammar::{Condition, Predicate, Predicates, RelativePaths, Step, Steps};
 
 /// Whether steps lead nowhere from the document since what a predicate asks for is ruled out in all of it.
 pub(crate) fn lead_nowhere<T: TextTest>(tree: &DocTree, steps: &Steps, test: &T) -> bool
@@ -85,11 +85,34 @@ fn skip_condition<T: TextTest>(tree: &DocTree, condition: &Condition, from: u32,
         Condition::Not(_) => 0,
         Condition::Attribute { .. } => 0,
         Condition::Exists(steps) => skip_steps(tree, steps, from, test),
-        Condition::Contains { steps, selection } => {
-            let place = skip_steps(tree, steps, from, test);
-            skip_selection(tree, *selection, from, test).max(place)
-        }
+        Condition::Contains {
+            steps,
+            selection,
+            ignored,
+        } => skip_text(tree, steps, *selection, ignored, from, test),
     }
+}
+
+/// Up to where steps lead nowhere or, where nothing is ignored, no element satisfies a selection.
+#[cycle(rule_out)]
+fn skip_text<T: TextTest>(
+    tree: &DocTree,
+    steps: &Items<Step>,
+    selection: usize,
+    paths: &RelativePaths,
+    from: u32,
+    test: &T,
+) -> u32
+    requires steps { OfEach (MayAsk tree.now.root (T.meaning test.now)) (form.steps (map view.step steps.now)) }
+    requires text { MayAsk tree.now.root (T.meaning test.now) selection }
+    ensures { IsFalse tree.now.root (T.meaning test.now) from result
+        (form.contains (form.steps (map view.step steps.now)) selection (form.paths (map view.relative_path paths.now))) }
+{
+    let place = skip_steps(tree, steps, from, test);
+    if !paths.is_empty() {
+        return place;
+    }
+    skip_selection(tree, selection, from, test).max(place)
 }
 
 /// Up to where all conditions are ruled out.

@@ -1,9 +1,10 @@
-ghost use Rattle.std.specs.Prelude.{◌≡◌, ◌≤◌, ◌+◌, ◌∷◌, [], ℕ, All, Bool, IfOk, OnOk, map, true};
+ghost use Rattle.std.specs.Prelude.{◌≡◌, ◌≤◌, ◌+◌, ◌∷◌, [], ℕ, All, Bool, IfOk, List, OnOk, false, map, true};
 ghost use Rattle.ordered_tree.specs.Numbered.{is_element, plain};
 ghost use Rattle.path_meaning.specs.Elements.{Element, elements, placed};
 ghost use Rattle.path_grammar.specs.Form as form;
 ghost use Rattle.path_meaning.specs.Meaning as meaning;
 ghost use Rattle.path_grammar.specs.View as view;
+ghost use Rattle.path_grammar.specs.Without.{has_without};
 ghost use Rattle.path_nodes.specs.Asked.{OfEach, OfStep, MayAsk};
 ghost use Rattle.path_nodes.specs.steps.Known.{AreRight};
 ghost use Rattle.path_nodes.specs.steps.Leading.{StandFrom, in_path, in_step};
@@ -17,7 +18,8 @@ use crate::kept::append;
 use crate::known::Known;
 use crate::leading::after_step;
 use crate::ruling_out::lead_nowhere;
-use crate::{Nodes, TextTest};
+use crate::without_holes::WithoutHoles;
+use crate::{HoleTest, Nodes, TextTest};
 use ft_base::Memory;
 use ordered_tree::{DocTree, NodeRef};
 use path_grammar::{Step, Steps};
@@ -25,7 +27,7 @@ use std::alloc::Global;
 
 /// The elements of a document to which steps lead from it, in document order, each once. `contains text` is answered by the
 /// test, which is asked only as long as the truth isn't known. Elements are gone past, with all below them, where it rules out what the
-/// predicates of a step ask for. Answers `Memory` for want of memory alone.
+/// predicates of a step ask for. None of the steps asks for text without content. Answers `Memory` for want of memory alone.
 ///
 /// The meaning of steps is that of XQuery 3.0, section 3.3.
 pub fn nodes<T: TextTest>(
@@ -35,10 +37,11 @@ pub fn nodes<T: TextTest>(
     test: &mut T,
 ) -> Result<Vec<NodeRef>, Memory>
     requires root { is_element tree.now.root ≡ true }
+    requires plain { has_without (form.steps (map view.step steps.now)) ≡ false }
     requires asked { OfEach (MayAsk tree.now.root (T.meaning test.old)) (form.steps (map view.step steps.now)) }
     ensures elements { IfOk result (λ found. map (element_of tree.now.root) found.items
         ≡ meaning.selected (satisfied tree.now.root (T.meaning test.old)) (form.steps (map view.step steps.now)) (plain tree.now.root)) }
-    ensures agrees { (satisfies : ℕ → Element → Bool) → Agrees tree.now.root (T.meaning test.old) satisfies
+    ensures agrees { (satisfies : ℕ → List Element → Element → Bool) → Agrees tree.now.root (T.meaning test.old) satisfies
         → IfOk result (λ found. map (element_of tree.now.root) found.items
         ≡ meaning.selected satisfies (form.steps (map view.step steps.now)) (plain tree.now.root)) }
     ensures there { IfOk result (λ found. All (IsElement tree.now.root) found.items) }
@@ -47,7 +50,36 @@ pub fn nodes<T: TextTest>(
         ≤ T.cost test.old
         + price_of tree.now.root (T.meaning test.old)
         (selected_tests (satisfied tree.now.root (T.meaning test.old)) (form.steps (map view.step steps.now)) (plain tree.now.root)) }
-    ensures costs { (satisfies : ℕ → Element → Bool) (price : ℕ → Element → ℕ) → Agrees tree.now.root (T.meaning test.old) satisfies
+    ensures costs { (satisfies : ℕ → List Element → Element → Bool) (price : ℕ → Element → ℕ) → Agrees tree.now.root (T.meaning test.old) satisfies
+        → Costs tree.now.root (T.meaning test.old) price
+        → T.cost test.new ≤ T.cost test.old + total_price price (selected_tests satisfies (form.steps (map view.step steps.now)) (plain tree.now.root)) }
+{
+    let mut alone = WithoutHoles { test };
+    nodes_without(alloc, steps, tree, &mut alone)
+}
+
+/// The same of steps that may ask for text without content: the test is given what is ignored. That is looked for once for an element of
+/// which a condition is asked, and only where there are elements to be tested.
+pub fn nodes_without<T: HoleTest>(
+    alloc: Global,
+    steps: &Steps,
+    tree: &DocTree,
+    test: &mut T,
+) -> Result<Vec<NodeRef>, Memory>
+    requires root { is_element tree.now.root ≡ true }
+    requires asked { OfEach (MayAsk tree.now.root (T.meaning test.old)) (form.steps (map view.step steps.now)) }
+    ensures elements { IfOk result (λ found. map (element_of tree.now.root) found.items
+        ≡ meaning.selected (satisfied tree.now.root (T.meaning test.old)) (form.steps (map view.step steps.now)) (plain tree.now.root)) }
+    ensures agrees { (satisfies : ℕ → List Element → Element → Bool) → Agrees tree.now.root (T.meaning test.old) satisfies
+        → IfOk result (λ found. map (element_of tree.now.root) found.items
+        ≡ meaning.selected satisfies (form.steps (map view.step steps.now)) (plain tree.now.root)) }
+    ensures there { IfOk result (λ found. All (IsElement tree.now.root) found.items) }
+    ensures meaning { T.meaning test.new ≡ T.meaning test.old }
+    ensures cost { T.cost test.new
+        ≤ T.cost test.old
+        + price_of tree.now.root (T.meaning test.old)
+        (selected_tests (satisfied tree.now.root (T.meaning test.old)) (form.steps (map view.step steps.now)) (plain tree.now.root)) }
+    ensures costs { (satisfies : ℕ → List Element → Element → Bool) (price : ℕ → Element → ℕ) → Agrees tree.now.root (T.meaning test.old) satisfies
         → Costs tree.now.root (T.meaning test.old) price
         → T.cost test.new ≤ T.cost test.old + total_price price (selected_tests satisfies (form.steps (map view.step steps.now)) (plain tree.now.root)) }
 {
@@ -78,7 +110,7 @@ pub fn nodes<T: TextTest>(
 }
 
 /// The elements to which a step leads from the document, whose only child is the root.
-fn from_document<T: TextTest>(
+fn from_document<T: HoleTest>(
     tree: &DocTree,
     step: &Step,
     root: NodeRef,

@@ -81,6 +81,27 @@ pub(crate) fn add_marked(
     Ok(())
 }
 
+/// The marked elements at and below an element, in document order.
+pub(crate) fn marked_from(
+    alloc: Global,
+    tree: &DocTree,
+    here: NodeRef,
+    marks: &Marks,
+    ways: &Marks,
+) -> Result<Nodes, Memory>
+    requires { IsElement tree.now.root here }
+    ensures elements { IfOk result (λ found. (test : Element → Bool)
+        → ((r : NodeRef) → IsElement tree.now.root r → is_marked marks.now r ≡ test (element_of tree.now.root r))
+        → LeadTo tree.now.root ways.now test
+        → map (element_of tree.now.root) found ≡ filter test (at_or_below (element_of tree.now.root here))) }
+    ensures there { IfOk result (All (IsElement tree.now.root)) }
+{
+    let mut found = Nodes::new(alloc);
+    push_marked(marks, here, &mut found)?;
+    add_marked(alloc, tree, here, marks, ways, &mut found)?;
+    Ok(found)
+}
+
 /// Puts a node to the end where it is marked.
 fn push_marked(marks: &Marks, node: NodeRef, found: &mut Nodes) -> Result<(), Memory>
     ensures { OnOk result (found.new ≡ found.old ++ filter (is_marked marks.now) (node ∷ [])) }

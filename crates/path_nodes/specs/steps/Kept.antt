@@ -33,7 +33,7 @@ abbrev pub has_number : Step → Bool
 has_number (step deep test predicates) = some_number predicates
 
 -- whether predicates that are no numbers keep an element, whatever else is in the list
-module _ (sat : ℕ → Element → Bool) (all : List Element) where
+module _ (sat : ℕ → List Element → Element → Bool) (all : List Element) where
   abbrev pub passes_by : Predicate → Element → Bool
   passes_by (number k) e = true
   passes_by (holds condition) e = is_true sat all condition e
@@ -51,6 +51,6 @@ abbrev pub kept_children : Numbered → Meaning → Step → Element → List El
 kept_children root m s e = kept root m s (element_children e)
 
 -- the truth of conditions that one of them decides: a true one where `or` joins them, a false one where `and` does
-abbrev pub joined : Bool → (ℕ → Element → Bool) → List Element → Conditions → Element → Bool
+abbrev pub joined : Bool → (ℕ → List Element → Element → Bool) → List Element → Conditions → Element → Bool
 joined true = some_true
 joined false = each_true

@@ -1,12 +1,13 @@
--- The conditions of steps that lead somewhere, each before those inside its steps.
+-- The conditions of steps that lead somewhere, each before those inside its paths and steps.
 use Rattle.std.specs.Prelude.{◌≡◌, ℕ, List, [], ◌∷◌, ◌++◌, drop, map}
 use Rattle.path_grammar.specs.Form as form
 use Rattle.path_grammar.specs.Form.{Step, step, Steps, no_steps, step_then, Predicate, number, holds, Predicates, no_predicates, predicate_then}
 use Rattle.path_grammar.specs.Form.{Condition, or_of, and_of, not_of, attribute, exists, contains, Conditions, no_conditions, condition_then}
+use Rattle.path_grammar.specs.Form.{Paths, no_paths, path_then}
 use Rattle.path_grammar.specs.View as view
 use Rattle.path_grammar.specs.declared.path.Step as declared
 
--- They are in the order of the path.
+-- They are in the order of the path, but for ignored paths, which stand before the steps.
 unfoldable mutual
   pub in_steps : Steps → List Condition
   in_steps no_steps = []
@@ -29,11 +30,15 @@ unfoldable mutual
   in_condition (not_of condition) = in_condition condition
   in_condition (attribute name value) = []
   in_condition (exists steps) = exists steps ∷ in_steps steps
-  in_condition (contains steps selection) = contains steps selection ∷ in_steps steps
+  in_condition (contains steps selection paths) = contains steps selection paths ∷ in_paths paths ++ in_steps steps
 
   pub in_conditions : Conditions → List Condition
   in_conditions no_conditions = []
   in_conditions (condition_then condition rest) = in_condition condition ++ in_conditions rest
+
+  pub in_paths : Paths → List Condition
+  in_paths no_paths = []
+  in_paths (path_then path rest) = in_steps path ++ in_paths rest
 
 -- A part's conditions stand among all from a number on, counted from 0.
 abbrev pub StandFrom : List Condition → ℕ → List Condition → Type 0

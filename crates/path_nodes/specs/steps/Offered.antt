@@ -1,5 +1,5 @@
 -- The elements that a walk has still to offer.
-use Rattle.std.specs.Prelude.{ℕ, Bool, List, [], ◌∷◌, flat_map, reverse, if◌then◌else◌, sum_by}
+use Rattle.std.specs.Prelude.{Bool, List, [], ◌∷◌, flat_map, reverse, if◌then◌else◌}
 use Rattle.ordered_tree.specs.Numbered.{Numbered}
 use Rattle.path_meaning.specs.Elements.{Element}
 use Rattle.path_nodes.specs.References.{IsElement, element_of}

@@ -22,7 +22,7 @@ pub record StandsWithin (root : Numbered) (from to : ℕ) (e : Element) : Type 0
 
 -- No element of the stretch satisfies the selection.
 abbrev pub HasNone : Numbered → Meaning → ℕ → ℕ → ℕ → Type 0
-HasNone root m from to selection = (e : Element) → StandsWithin root from to e → satisfied root m selection e ≡ false
+HasNone root m from to selection = (e : Element) → StandsWithin root from to e → satisfied root m selection [] e ≡ false
 
 -- The condition is false of each element of the stretch.
 abbrev pub IsFalse : Numbered → Meaning → ℕ → ℕ → Condition → Type 0

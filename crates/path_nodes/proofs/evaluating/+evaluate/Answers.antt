@@ -21,16 +21,17 @@ use Rattle.path_nodes.specs.steps.Marks.{is_marked}
 use Rattle.path_nodes.specs.steps.Offered.{to_come}
 use Rattle.path_nodes.specs.steps.RuledOut.{KeepNothing, Suffice}
 use Rattle.path_nodes.specs.steps.Weights.{weights_at}
-use Rattle.path_nodes.specs.steps.Leading.{StandFrom, in_path, in_steps, in_predicate, in_condition}
+use Rattle.path_nodes.specs.steps.Leading.{StandFrom, in_path, in_paths, in_steps, in_predicate, in_condition}
 use Rattle.path_nodes.specs.Prices as price
 use Rattle.path_nodes.specs.References.{IsElement, element_of}
 use Rattle.path_nodes.specs.steps.Regions.{below}
 use Rattle.path_nodes.specs.Says.{Meaning, satisfied}
 use Rattle.path_nodes.specs.steps.Within.{AtOrBelow}
-use Rattle.path_nodes.proofs.AskedLemmas.{step-is, of-step, nth-step, nth-predicate, nth-condition}
+use Rattle.path_nodes.proofs.AskedLemmas.{step-is, of-step, nth-step, nth-predicate, nth-condition, nth-path}
 use Rattle.path_nodes.proofs.ChosenLemmas.{within-base, chosen-inside, parents-inside, all-refs, of-document, stepped-is}
 use Rattle.path_nodes.proofs.PrefixLemmas.{prefix-itself}
-use Rattle.path_nodes.proofs.LeadingLemmas.{in-step, steps-from, predicates-from, conditions-from, stand-first, stand-next, stand-itself, stand-inside}
+use Rattle.path_nodes.proofs.IgnoredLemmas.{led_by, all-ignored, inside-more, lead-more, marks-more}
+use Rattle.path_nodes.proofs.LeadingLemmas.{in-step, steps-from, predicates-from, conditions-from, paths-from, stand-first, stand-next, stand-itself, stand-inside}
 use Rattle.path_nodes.proofs.MemberLemmas.{or-cases, same-offered, same-inside}
 use Rattle.path_nodes.proofs.OfferedLemmas.{in-one-pass, one-pass-price}
 use Rattle.path_nodes.proofs.OfferingLemmas.{cost-here, kept-last, kept-next}
@@ -38,8 +39,8 @@ use Rattle.path_nodes.proofs.OrderLemmas.{one-ordered, stepped-ordered}
 use Rattle.path_nodes.proofs.OutermostLemmas.{same-parents, few-parents, outer-members, outer-once}
 use Rattle.path_nodes.proofs.ListLemmas.{any-more-of, filter-more, more-there, or-nothing}
 use Rattle.path_nodes.proofs.MeaningLemmas.{led-next, filtered-next, passes-next, passes-stop, stays-one, decided, undecided, joined-none, emptied}
-use Rattle.path_nodes.proofs.PriceLemmas.{sum-next, price-append, price-none, price-holds, one-holds, steps-next, predicates-next, conditions-next, step-price}
-use Rattle.path_nodes.proofs.CostLemmas.{cost-next, cost-part, at-price, at-most, both-cost}
+use Rattle.path_nodes.proofs.PriceLemmas.{sum-next, contains-price, paths-next, plain-price, price-none, price-holds, one-holds, steps-next, predicates-next, conditions-next, step-price}
+use Rattle.path_nodes.proofs.CostLemmas.{cost-next, cost-part, at-price, at-most, both-cost, first-part-cost}
 use Rattle.path_nodes.proofs.RulingOutLemmas.{nothing-kept}
 use Rattle.path_nodes.proofs.SpotLemmas.{of_number}
 use Rattle.path_nodes.proofs.WayLemmas.{lead-kept}
@@ -88,7 +89,28 @@ is_true-exists-requires g t c κs within = (search (rules, the_lemmas), (within,
 
 pub is_true-contains_text-requires : goal.is_true-contains_text-requires
 unfolding OfCondition in_condition
-is_true-contains_text-requires g t c κs within = let both = rw (c.in-Contains.is, view_contains) at c.requires.asked in (search (rules, the_lemmas), (within, (c.requires.item, (both.0, (both.1, (rw (c.in-Contains.is, view_contains) at c.requires.numbered, c.requires.known))))))
+is_true-contains_text-requires g t c κs within =
+    let empty = c.is_empty.ensures.0 c.if-is_empty.true in
+    let all = rw (c.in-Contains.is, view_contains) at c.requires.asked in
+    (search (rules, the_lemmas), (within, (c.requires.item, (all.0, (all.1, (rw (c.in-Contains.is, view_contains, empty) at c.requires.numbered, c.requires.known))))))
+
+pub is_true-led_past-requires : goal.is_true-led_past-requires
+unfolding OfCondition in_condition
+is_true-led_past-requires g t c κs within =
+    let s = form.steps (map view.step c.in-Contains.steps) in
+    let ps = form.paths (map view.relative_path c.in-Contains.ignored) in
+    let all = rw (c.in-Contains.is, view_contains) at c.requires.asked in
+    let numbered = rw (c.in-Contains.is, view_contains) at c.requires.numbered in
+    let inside = stand-inside (in_path c.args.known.now.path.now) c.args.number (c.args.number + 1) (form.contains s c.in-Contains.selection ps) (in_paths ps ++ in_steps s) numbered refl in
+    (search (rules, the_lemmas), (within, (c.requires.item, (all.0, (inside, c.requires.known)))))
+
+pub is_true-satisfies_left-requires : goal.is_true-satisfies_left-requires
+unfolding OfCondition
+is_true-satisfies_left-requires g t c κs within =
+    let all = rw (c.in-Contains.is, view_contains) at c.requires.asked in
+    let numbered = rw (c.in-Contains.is, view_contains) at c.requires.numbered in
+    let led = c.in_ok-nodes-in-Contains.ensures in
+    (search (rules, the_lemmas), (within, (c.requires.item, (led.there, (rw led.meaning led.elements, (rw led.meaning all.1, (rw led.meaning all.2, (rw led.path numbered, rw (led.meaning, led.path) led.known))))))))
 
 pub is_true-returns-in-Or : goal.is_true-returns-in-Or
 unfolding meaning.is_true condition_tests
@@ -118,10 +140,50 @@ pub is_true-returns-in-Exists : goal.is_true-returns-in-Exists
 unfolding meaning.is_true condition_tests
 is_true-returns-in-Exists g t c = rw (c.in-Exists.is, view_exists) (record { truth = c.exists.ensures.truth; meaning = c.exists.ensures.meaning; path = c.exists.ensures.path; known = c.exists.ensures.known; cost = c.exists.ensures.cost })
 
-pub is_true-returns-in-Contains : goal.is_true-returns-in-Contains
-unfolding meaning.is_true condition_tests
-is_true-returns-in-Contains g t c =
-    rw (c.in-Contains.is, view_contains) (record { truth = c.contains_text.ensures.truth; meaning = c.contains_text.ensures.meaning; path = c.contains_text.ensures.path; known = c.contains_text.ensures.known; cost = rw price-append c.contains_text.ensures.cost })
+pub is_true-returns-then-is_empty-clause-truth : goal.is_true-returns-then-is_empty-clause-truth
+unfolding meaning.is_true meaning.ignored
+is_true-returns-then-is_empty-clause-truth g t c = rw (c.in-Contains.is, view_contains, c.is_empty.ensures.0 c.if-is_empty.true) c.contains_text.ensures.truth
+
+pub is_true-returns-then-is_empty-clause-cost : goal.is_true-returns-then-is_empty-clause-cost
+is_true-returns-then-is_empty-clause-cost g t c =
+    let s = form.steps (map view.step c.in-Contains.steps) in
+    let whole = plain-price c.args.tree.now.root (g.T.TextTest.meaning c.args.test.now) s c.in-Contains.selection (element_of c.args.tree.now.root c.args.item) in
+    rw (c.in-Contains.is, view_contains, c.is_empty.ensures.0 c.if-is_empty.true) (at-price _ _ _ _ c.contains_text.ensures.cost whole)
+
+pub is_true-returns-in-Some-clause-truth : goal.is_true-returns-in-Some-clause-truth
+unfolding in_condition
+is_true-returns-in-Some-clause-truth g t c =
+    let s = form.steps (map view.step c.in-Contains.steps) in
+    let ps = form.paths (map view.relative_path c.in-Contains.ignored) in
+    let condition = form.contains s c.in-Contains.selection ps in
+    let numbered = rw (c.in-Contains.is, view_contains) at c.requires.numbered in
+    let itself = stand-itself (in_path c.args.known.now.path.now) c.args.number condition (in_paths ps ++ in_steps s) numbered in
+    rw (c.in-Contains.is, view_contains) (c.requires.known c.args.number condition c.args.item c.in-Some.truth itself (sym c.truth.ensures ∙ c.in-Some.is))
+
+pub is_true-returns-in_err-nodes-in-Contains-clause-cost : goal.is_true-returns-in_err-nodes-in-Contains-clause-cost
+is_true-returns-in_err-nodes-in-Contains-clause-cost g t c =
+    let root = c.args.tree.now.root in
+    let s = form.steps (map view.step c.in-Contains.steps) in
+    let ps = form.paths (map view.relative_path c.in-Contains.ignored) in
+    let whole = contains-price root (g.T.TextTest.meaning c.args.test.now) s c.in-Contains.selection ps (element_of root c.args.item) in
+    rw (c.in-Contains.is, view_contains) (first-part-cost _ _ _ _ _ c.led_past.ensures.cost whole)
+
+pub is_true-returns-in_ok-nodes-in-Contains-clause-truth : goal.is_true-returns-in_ok-nodes-in-Contains-clause-truth
+is_true-returns-in_ok-nodes-in-Contains-clause-truth g t c =
+    rw (c.in-Contains.is, view_contains) (rw c.in_ok-nodes-in-Contains.ensures.meaning at c.satisfies_left.ensures.truth)
+
+pub is_true-returns-in_ok-nodes-in-Contains-clause-known : goal.is_true-returns-in_ok-nodes-in-Contains-clause-known
+is_true-returns-in_ok-nodes-in-Contains-clause-known g t c =
+    rw (c.in_ok-nodes-in-Contains.ensures.meaning, c.in_ok-nodes-in-Contains.ensures.path) at c.satisfies_left.ensures.known
+
+pub is_true-returns-in_ok-nodes-in-Contains-clause-cost : goal.is_true-returns-in_ok-nodes-in-Contains-clause-cost
+is_true-returns-in_ok-nodes-in-Contains-clause-cost g t c =
+    let root = c.args.tree.now.root in
+    let s = form.steps (map view.step c.in-Contains.steps) in
+    let ps = form.paths (map view.relative_path c.in-Contains.ignored) in
+    let whole = contains-price root (g.T.TextTest.meaning c.args.test.now) s c.in-Contains.selection ps (element_of root c.args.item) in
+    let left = rw (c.in_ok-nodes-in-Contains.ensures.meaning, c.in_ok-nodes-in-Contains.ensures.elements) at c.satisfies_left.ensures.cost in
+    rw (c.in-Contains.is, view_contains) (both-cost _ _ _ _ _ _ c.led_past.ensures.cost left whole)
 
 -- ---- exists and contains_text
 
@@ -153,9 +215,9 @@ exists-returns-clause-known g t c =
 
 -- no steps lead from the element to itself
 module _ (root : Numbered) (m : Meaning) (k : ℕ) (e : Element) (steps : List declared.Step) (none : steps ≡ []) where
-  itself : satisfied root m k e ≡ list_any (satisfied root m k) (meaning.led (satisfied root m) (elements (plain root)) (form.steps (map view.step steps)) (e ∷ []))
+  itself : satisfied root m k [] e ≡ list_any (satisfied root m k []) (meaning.led (satisfied root m) (elements (plain root)) (form.steps (map view.step steps)) (e ∷ []))
   unfolding meaning.led
-  itself = sym (ap (λ l. list_any (satisfied root m k) (meaning.led (satisfied root m) (elements (plain root)) (form.steps (map view.step l)) (e ∷ []))) none ∙ or-nothing false (satisfied root m k e))
+  itself = sym (ap (λ l. list_any (satisfied root m k []) (meaning.led (satisfied root m) (elements (plain root)) (form.steps (map view.step l)) (e ∷ []))) none ∙ or-nothing false (satisfied root m k [] e))
 
   itself-price : price.price_of root m (each_tested k (e ∷ []))
       ≡ price.steps_price root m (form.steps (map view.step steps)) (e ∷ []) + price.price_of root m (each_tested k (meaning.led (satisfied root m) (elements (plain root)) (form.steps (map view.step steps)) (e ∷ [])))
@@ -184,30 +246,147 @@ pub contains_text-led_from-requires : goal.contains_text-led_from-requires
 unfolding in_condition
 contains_text-led_from-requires g t c κs within =
     let s = form.steps (map view.step c.args.steps.now) in
-    let inside = stand-inside (in_path c.args.known.now.path.now) c.args.number c.in_ok-next.field-0 (form.contains s c.args.selection) (in_steps s) c.requires.numbered c.in_ok-next.ensures in
+    let inside = stand-inside (in_path c.args.known.now.path.now) c.args.number c.in_ok-next.field-0 (form.contains s c.args.selection form.no_paths) (in_steps s) c.requires.numbered c.in_ok-next.ensures in
     (search (rules, the_lemmas), (within, (c.requires.item, (c.requires.asked, (inside, c.requires.known)))))
 
 pub contains_text-returns-in-Some-clause-truth : goal.contains_text-returns-in-Some-clause-truth
-unfolding in_condition meaning.is_true
+unfolding in_condition meaning.is_true meaning.ignored
 contains_text-returns-in-Some-clause-truth g t c =
     let s = form.steps (map view.step c.args.steps.now) in
-    let itself = stand-itself (in_path c.args.known.now.path.now) c.args.number (form.contains s c.args.selection) (in_steps s) c.requires.numbered in
-    c.requires.known c.args.number (form.contains s c.args.selection) c.args.item c.in-Some.truth itself (sym c.truth.ensures ∙ c.in-Some.is)
+    let itself = stand-itself (in_path c.args.known.now.path.now) c.args.number (form.contains s c.args.selection form.no_paths) (in_steps s) c.requires.numbered in
+    c.requires.known c.args.number (form.contains s c.args.selection form.no_paths) c.args.item c.in-Some.truth itself (sym c.truth.ensures ∙ c.in-Some.is)
 
 pub contains_text-returns-clause-truth : goal.contains_text-returns-clause-truth
-contains_text-returns-clause-truth g t c = rw (c.in_ok-nodes.ensures.meaning, c.in_ok-nodes.ensures.elements) at c.in_ok-truth.ensures.truth
+contains_text-returns-clause-truth g t c = rw (c.in_ok-nodes.ensures.meaning, c.in_ok-nodes.ensures.elements, c.new-none.ensures) at c.in_ok-truth.ensures.truth
 
 pub contains_text-returns-clause-known : goal.contains_text-returns-clause-known
-unfolding in_condition meaning.is_true
+unfolding in_condition meaning.is_true meaning.ignored
 contains_text-returns-clause-known g t c =
     let s = form.steps (map view.step c.args.steps.now) in
     let all = in_path c.args.known.now.path.now in
-    let itself = stand-itself all c.args.number (form.contains s c.args.selection) (in_steps s) c.requires.numbered in
-    c.in_ok-keep.ensures.right c.args.tree.now.root (g.T.TextTest.meaning c.args.test.now) all (form.contains s c.args.selection) c.in_ok-nodes.ensures.known itself (contains_text-returns-clause-truth g t c)
+    let itself = stand-itself all c.args.number (form.contains s c.args.selection form.no_paths) (in_steps s) c.requires.numbered in
+    c.in_ok-keep.ensures.right c.args.tree.now.root (g.T.TextTest.meaning c.args.test.now) all (form.contains s c.args.selection form.no_paths) c.in_ok-nodes.ensures.known itself (contains_text-returns-clause-truth g t c)
 
 pub contains_text-returns-clause-cost : goal.contains_text-returns-clause-cost
 contains_text-returns-clause-cost g t c =
     both-cost _ _ _ _ _ _ c.in_ok-nodes.ensures.cost (rw (c.in_ok-nodes.ensures.meaning, c.in_ok-nodes.ensures.elements) at c.in_ok-truth.ensures.cost) refl
+
+-- ---- what is ignored
+
+pub led_past-led_from-requires : goal.led_past-led_from-requires
+led_past-led_from-requires g t c κs within =
+    let ps = in_paths (form.paths (map view.relative_path c.args.paths.now)) in
+    let ss = in_steps (form.steps (map view.step c.args.steps.now)) in
+    let inside = stand-next ps ss (ps ++ ss) refl (in_path c.args.known.now.path.now) (c.args.number + 1) c.requires.numbered c.in_ok-inside.inside
+    (c.in_ok-inside.ensures ∙ ap (λ n. n + length ps) c.in_ok-first.ensures) in
+    (search (rules, the_lemmas), (within, (c.requires.item, (c.requires.asked, (inside, c.requires.known)))))
+
+pub satisfies_left-some_satisfies-requires : goal.satisfies_left-some_satisfies-requires
+unfolding in_condition
+satisfies_left-some_satisfies-requires g t c κs within =
+    let s = form.steps (map view.step c.args.steps.now) in
+    let ps = form.paths (map view.relative_path c.args.paths.now) in
+    let path = in_path c.args.known.now.path.now in
+    let inside = stand-inside path c.args.number c.in_ok-first.first (form.contains s c.args.selection ps) (in_paths ps ++ in_steps s) c.requires.numbered c.in_ok-first.ensures in
+    let first = stand-first (in_paths ps) (in_steps s) (in_paths ps ++ in_steps s) refl path c.in_ok-first.first inside in
+    (search (rules, the_lemmas), (within, (c.requires.item, (c.requires.nodes, (c.requires.text, (c.requires.asked, (first, c.requires.known)))))))
+
+pub satisfies_left-returns-clause-truth : goal.satisfies_left-returns-clause-truth
+unfolding meaning.is_true
+satisfies_left-returns-clause-truth g t c =
+    let root = c.args.tree.now.root in
+    let sat = satisfied root (g.T.TextTest.meaning c.args.test.now) in
+    let ps = form.paths (map view.relative_path c.args.paths.now) in
+    c.in_ok-truth.ensures.truth
+    ∙ ap (list_any (sat c.args.selection (meaning.ignored sat (elements (plain root)) ps (element_of root c.args.item)))) c.requires.led
+
+pub satisfies_left-returns-clause-known : goal.satisfies_left-returns-clause-known
+unfolding in_condition
+satisfies_left-returns-clause-known g t c =
+    let s = form.steps (map view.step c.args.steps.now) in
+    let ps = form.paths (map view.relative_path c.args.paths.now) in
+    let all = in_path c.args.known.now.path.now in
+    let itself = stand-itself all c.args.number (form.contains s c.args.selection ps) (in_paths ps ++ in_steps s) c.requires.numbered in
+    c.in_ok-keep.ensures.right c.args.tree.now.root (g.T.TextTest.meaning c.args.test.now) all (form.contains s c.args.selection ps) c.in_ok-truth.ensures.known itself (satisfies_left-returns-clause-truth g t c)
+
+pub some_satisfies-returns-then-is_empty-clause-truth : goal.some_satisfies-returns-then-is_empty-clause-truth
+some_satisfies-returns-then-is_empty-clause-truth g t c =
+    let root = c.args.tree.now.root in
+    let sat = satisfied root (g.T.TextTest.meaning c.args.test.now) in
+    let ps = form.paths (map view.relative_path c.args.paths.now) in
+    let test = sat c.args.selection (meaning.ignored sat (elements (plain root)) ps (element_of root c.args.item)) in
+    sym (ap (λ l. list_any test (map (element_of root) l)) (c.is_empty.ensures.0 c.if-is_empty.true))
+
+pub some_satisfies-returns-then-is_empty-clause-cost : goal.some_satisfies-returns-then-is_empty-clause-cost
+some_satisfies-returns-then-is_empty-clause-cost g t c = omega arith
+
+pub some_satisfies-some_contains-requires-clause-asked : goal.some_satisfies-some_contains-requires-clause-asked
+some_satisfies-some_contains-requires-clause-asked g t c = rw c.in_ok-holes.ensures.meaning c.requires.text
+
+pub some_satisfies-returns-clause-truth : goal.some_satisfies-returns-clause-truth
+some_satisfies-returns-clause-truth g t c = rw (c.in_ok-holes.ensures.meaning, c.in_ok-holes.ensures.elements) at c.in_ok-truth.ensures.truth
+
+pub some_satisfies-returns-in_err-holes-clause-cost : goal.some_satisfies-returns-in_err-holes-clause-cost
+some_satisfies-returns-in_err-holes-clause-cost g t c = first-part-cost _ _ _ _ _ c.ignored.ensures.cost refl
+
+pub some_satisfies-returns-in_err-truth-clause-cost : goal.some_satisfies-returns-in_err-truth-clause-cost
+some_satisfies-returns-in_err-truth-clause-cost g t c = both-cost _ _ _ _ _ _ c.ignored.ensures.cost (rw c.in_ok-holes.ensures.meaning at c.some_contains.ensures.cost) refl
+
+pub some_satisfies-returns-clause-cost : goal.some_satisfies-returns-clause-cost
+some_satisfies-returns-clause-cost g t c = both-cost _ _ _ _ _ _ c.ignored.ensures.cost (rw c.in_ok-holes.ensures.meaning at c.some_contains.ensures.cost) refl
+
+pub ignored-led_from-requires : goal.ignored-led_from-requires
+ignored-led_from-requires g t c κs within =
+    let P = MayAsk c.args.tree.now.root (g.T.TextTest.meaning c.args.test.now) in
+    let asked = rw (← c.as_slice-path-items.ensures) at c.requires.asked in
+    let one = nth-path P c.as_slice-path-items.result.now c.loop-path.path-index c.path-item.result c.loop-path-test.true asked in
+    let first = stand-first _ _ _ (paths-from c.as_slice-path-items.result.now c.loop-path.path-index c.path-item.result c.loop-path-test.true) (in_path c.args.known.now.path.now) c.loop-path.first c.loop-path.invariant.numbered in
+    (search (rules, the_lemmas), (within, (c.requires.item, (rw (c.loop-path.invariant.meaning, c.path-item.is) one, (rw (c.loop-path.invariant.path, c.path-item.is) first, rw (c.loop-path.invariant.meaning, c.loop-path.invariant.path) c.loop-path.invariant.known)))))
+
+pub ignored-loop-path-preserved : goal.ignored-loop-path-preserved
+ignored-loop-path-preserved g t c =
+    let root = c.args.tree.now.root in
+    let m = g.T.TextTest.meaning c.args.test.now in
+    let e = element_of root c.args.item in
+    let items = c.as_slice-path-items.result.now in
+    let i = c.loop-path.path-index in
+    let d = c.path-item.result in
+    let lt = c.loop-path-test.true in
+    let found = c.in_ok-found.found in
+    let now = rw (c.loop-path.invariant.meaning, c.path-item.is) at c.in_ok-found.ensures.elements in
+    record {
+      marks = marks-more root m e items i d lt found now c.loop-path.marks c.mark_found.new.marks c.in_ok-mark_found.ensures.marks c.loop-path.invariant.marks;
+      ways = c.in_ok-mark_found.ensures.ways;
+      lead = lead-more root m e items i d lt found now c.loop-path.ways c.mark_found.new.ways c.in_ok-found.ensures.there c.in_ok-mark_found.ensures.ways c.in_ok-mark_found.ensures.there
+          c.in_ok-mark_found.ensures.more c.loop-path.invariant.lead;
+      inside = inside-more root m e items i d lt found now e c.in_ok-found.ensures.inside c.loop-path.invariant.inside;
+      meaning = c.led_from.ensures.meaning ∙ c.loop-path.invariant.meaning;
+      path = c.led_from.ensures.path ∙ c.loop-path.invariant.path;
+      numbered = stand-next _ _ _ (paths-from items i d lt) _ _ c.loop-path.invariant.numbered _ (rw c.path-item.is at c.in_ok-after.ensures);
+      known = rw (c.loop-path.invariant.meaning, c.loop-path.invariant.path) at c.in_ok-found.ensures.known;
+      cost = cost-next _ _ _ _ _ _ (rw (c.loop-path.invariant.meaning, c.path-item.is) at c.led_from.ensures.cost) c.loop-path.invariant.cost (paths-next root m items i d lt e);
+    }
+
+pub ignored-returns-clause-elements : goal.ignored-returns-clause-elements
+ignored-returns-clause-elements g t c =
+    let root = c.args.tree.now.root in
+    let m = g.T.TextTest.meaning c.args.test.now in
+    let e = element_of root c.args.item in
+    let items = c.as_slice-path-items.result.now in
+    let past : length items ≤ c.loop-path.path-index = omega (arith, c.loop-path-test.false) in
+    let every = take_all c.loop-path.path-index items past ∙ c.as_slice-path-items.ensures in
+    c.in_ok-nodes.ensures.elements (is_in (led_by root m e c.args.paths.now)) (rw every at c.loop-path.invariant.marks) (rw every at c.loop-path.invariant.lead)
+    ∙ all-ignored root c.args.item c.requires.item m c.args.paths.now (rw every at c.loop-path.invariant.inside)
+
+pub ignored-returns-in_err-found-clause-cost : goal.ignored-returns-in_err-found-clause-cost
+ignored-returns-in_err-found-clause-cost g t c =
+    cost-part _ _ _ _ _ _ (rw (c.loop-path.invariant.meaning, c.path-item.is) at c.led_from.ensures.cost) c.loop-path.invariant.cost
+    (paths-next c.args.tree.now.root (g.T.TextTest.meaning c.args.test.now) c.as_slice-path-items.result.now c.loop-path.path-index c.path-item.result c.loop-path-test.true (element_of c.args.tree.now.root c.args.item))
+
+pub ignored-returns-in_err-mark_found-clause-cost : goal.ignored-returns-in_err-mark_found-clause-cost
+ignored-returns-in_err-mark_found-clause-cost g t c =
+    cost-part _ _ _ _ _ _ (rw (c.loop-path.invariant.meaning, c.path-item.is) at c.led_from.ensures.cost) c.loop-path.invariant.cost
+    (paths-next c.args.tree.now.root (g.T.TextTest.meaning c.args.test.now) c.as_slice-path-items.result.now c.loop-path.path-index c.path-item.result c.loop-path-test.true (element_of c.args.tree.now.root c.args.item))
 
 -- ---- joined
 

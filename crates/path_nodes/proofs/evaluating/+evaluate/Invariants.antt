@@ -11,7 +11,7 @@ use Rattle.path_meaning.specs.Meaning.{is_named}
 use Rattle.path_grammar.specs.View as view
 use Rattle.path_meaning.specs.Order.{Before}
 use Rattle.path_nodes.specs.steps.Known.{AreRight}
-use Rattle.path_nodes.specs.steps.Leading.{StandFrom, in_path, in_steps, in_predicates, in_conditions}
+use Rattle.path_nodes.specs.steps.Leading.{StandFrom, in_path, in_paths, in_steps, in_predicates, in_conditions}
 use Rattle.path_nodes.specs.steps.Kept.{kept_children, joined, offered, passes}
 use Rattle.path_nodes.specs.steps.Offered.{IsStop, to_come}
 use Rattle.path_nodes.specs.steps.RuledOut.{KeepNothing}
@@ -22,6 +22,7 @@ use Rattle.path_nodes.specs.References.{IsElement, element_of}
 use Rattle.path_nodes.specs.Says.{satisfied}
 use Rattle.path_nodes.specs.steps.Within.{AtOrBelow}
 use Rattle.path_nodes.specs.steps.Ways.{AreWays, LeadTo}
+use Rattle.path_nodes.proofs.IgnoredLemmas.{led_by}
 use Rattle.path_nodes.proofs.evaluating.+evaluate.Given as goal
 
 abbrev pub invariant-chosen-loop-parent : goal.invariant-chosen-loop-parent
@@ -116,4 +117,19 @@ invariant-passes-loop-predicate g l = record {
   known : AreRight l.tree.root (g.T.TextTest.meaning l.fn.test) (in_path l.fn.known.path.now) l.known.truths;
   cost : g.T.TextTest.cost l.test + price.predicates_price l.tree.root (g.T.TextTest.meaning l.fn.test) (form.predicates (map view.predicate (drop l.predicate-index l.predicate-items))) (element_of l.tree.root l.item ∷ [])
       ≤ g.T.TextTest.cost l.fn.test + price.predicates_price l.tree.root (g.T.TextTest.meaning l.fn.test) (form.predicates (map view.predicate l.fn.step.predicates)) (element_of l.tree.root l.item ∷ []);
+}
+
+abbrev pub invariant-ignored-loop-path : goal.invariant-ignored-loop-path
+invariant-ignored-loop-path g l = record {
+  marks : (r : NodeRef) → IsElement l.tree.root r
+      → is_marked l.marks r ≡ is_in (led_by l.tree.root (g.T.TextTest.meaning l.fn.test) (element_of l.tree.root l.item) (take l.path-index l.path-items)) (element_of l.tree.root r);
+  ways : AreWays l.tree.root l.ways;
+  lead : LeadTo l.tree.root l.ways (is_in (led_by l.tree.root (g.T.TextTest.meaning l.fn.test) (element_of l.tree.root l.item) (take l.path-index l.path-items)));
+  inside : All (All (AtOrBelow (element_of l.tree.root l.item))) (led_by l.tree.root (g.T.TextTest.meaning l.fn.test) (element_of l.tree.root l.item) (take l.path-index l.path-items));
+  meaning : g.T.TextTest.meaning l.test ≡ g.T.TextTest.meaning l.fn.test;
+  path : l.known.path ≡ l.fn.known.path;
+  numbered : StandFrom (in_path l.fn.known.path.now) l.first (in_paths (form.paths (map view.relative_path (drop l.path-index l.path-items))));
+  known : AreRight l.tree.root (g.T.TextTest.meaning l.fn.test) (in_path l.fn.known.path.now) l.known.truths;
+  cost : g.T.TextTest.cost l.test + price.ignored_price l.tree.root (g.T.TextTest.meaning l.fn.test) (form.paths (map view.relative_path (drop l.path-index l.path-items))) (element_of l.tree.root l.item)
+      ≤ g.T.TextTest.cost l.fn.test + price.ignored_price l.tree.root (g.T.TextTest.meaning l.fn.test) (form.paths (map view.relative_path l.fn.paths)) (element_of l.tree.root l.item);
 }

@@ -1,9 +1,11 @@
 -- One part further; after the last one nothing is left.
-use Rattle.std.proofs.Common.{◌≤◌, length, refl, arith}
-use Rattle.std.proofs.lemmas.List.{drop_all}
+use Rattle.std.proofs.Common.{◌≡◌, ◌≤◌, ◌+◌, IfOk, length, map, refl, subst, arith}
+use Rattle.std.proofs.lemmas.List.{drop_all, length-append}
+use Rattle.path_grammar.specs.Form as form
+use Rattle.path_grammar.specs.View as view
 use Rattle.path_grammar.proofs.Views.{view_number, view_holds, view_or, view_and, view_not, view_attribute, view_exists, view_contains}
-use Rattle.path_nodes.specs.steps.Leading.{in_steps, in_predicate, in_predicates, in_condition, in_conditions}
-use Rattle.path_nodes.proofs.LeadingLemmas.{in-step, after-next, steps-from, predicates-from, conditions-from}
+use Rattle.path_nodes.specs.steps.Leading.{in_steps, in_predicate, in_predicates, in_condition, in_conditions, in_paths}
+use Rattle.path_nodes.proofs.LeadingLemmas.{in-step, after-next, steps-from, predicates-from, conditions-from, paths-from}
 use Rattle.path_nodes.proofs.leading.+after.Goals as goal
 
 -- ---- predicates and conditions
@@ -36,9 +38,29 @@ pub after_condition-returns-in-Exists : goal.after_condition-returns-in-Exists
 unfolding in_condition
 after_condition-returns-in-Exists t c = rw (c.in-Exists.is, view_exists) c.after_leading.ensures
 
-pub after_condition-returns-in-Contains : goal.after_condition-returns-in-Contains
+pub after_condition-returns-in_ok-between-in-Contains : goal.after_condition-returns-in_ok-between-in-Contains
 unfolding in_condition
-after_condition-returns-in-Contains t c = rw (c.in-Contains.is, view_contains) c.after_leading-in-Contains.ensures
+after_condition-returns-in_ok-between-in-Contains t c =
+    let paths = in_paths (form.paths (map view.relative_path c.in-Contains.ignored)) in
+    let steps = in_steps (form.steps (map view.step c.in-Contains.steps)) in
+    let long = length-append paths steps in
+    let first : c.in_ok-inside-in-Contains.inside ≡ c.args.number + 1 = c.in_ok-inside-in-Contains.ensures in
+    let second : c.in_ok-between-in-Contains.between ≡ c.in_ok-inside-in-Contains.inside + length paths = c.in_ok-between-in-Contains.ensures in
+    rw (c.in-Contains.is, view_contains)
+    (subst (λ n. IfOk c.after_steps.result (λ after. after ≡ n)) (omega (arith, long, first, second)) c.after_steps.ensures)
+
+pub after_paths-loop-path-preserved : goal.after_paths-loop-path-preserved
+after_paths-loop-path-preserved t c =
+    let next = paths-from c.as_slice-path-items.result.now c.loop-path.path-index c.path-item.result c.loop-path-test.true in
+    after-next _ _ _ next c.loop-path.after c.in_ok-after.after _ (rw c.path-item.is at c.in_ok-after.ensures) c.loop-path.invariant
+
+pub after_paths-returns : goal.after_paths-returns
+unfolding in_paths
+after_paths-returns t c =
+    let items = c.as_slice-path-items.result.now in
+    let past : length items ≤ c.loop-path.path-index = omega (arith, c.loop-path-test.false) in
+    let all = rw (drop_all c.loop-path.path-index items past) at c.loop-path.invariant in
+    omega (arith, all)
 
 -- ---- the predicates of a step
 

@@ -88,27 +88,34 @@ pub skip_condition-skip_steps-requires : goal.skip_condition-skip_steps-requires
 unfolding OfCondition
 skip_condition-skip_steps-requires g t c κs within = (search (rules, the_lemmas), (within, rw (c.in-Exists.is, view_exists) at c.requires))
 
-pub skip_condition-skip_steps-place-requires : goal.skip_condition-skip_steps-place-requires
+pub skip_condition-skip_text-requires : goal.skip_condition-skip_text-requires
 unfolding OfCondition
-skip_condition-skip_steps-place-requires g t c κs within = let both = rw (c.in-Contains.is, view_contains) at c.requires in (search (rules, the_lemmas), (within, both.0))
-
-pub skip_condition-skip_selection-requires : goal.skip_condition-skip_selection-requires
-unfolding OfCondition
-skip_condition-skip_selection-requires g t c = let both = rw (c.in-Contains.is, view_contains) at c.requires in both.1
+skip_condition-skip_text-requires g t c κs within = let all = rw (c.in-Contains.is, view_contains) at c.requires in (search (rules, the_lemmas), (within, (all.0, all.1)))
 
 pub skip_condition-returns-in-Exists : goal.skip_condition-returns-in-Exists
 skip_condition-returns-in-Exists g t c =
     rw (c.in-Exists.is, view_exists) (exists-nowhere c.args.tree.now.root (g.T.TextTest.meaning c.args.test.now) c.args.from c.skip_steps.result _ c.skip_steps.ensures)
 
 pub skip_condition-returns-in-Contains : goal.skip_condition-returns-in-Contains
-skip_condition-returns-in-Contains g t c =
+skip_condition-returns-in-Contains g t c = rw (c.in-Contains.is, view_contains) c.skip_text.ensures
+
+-- ---- text
+
+pub skip_text-returns-then-not-is_empty : goal.skip_text-returns-then-not-is_empty
+skip_text-returns-then-not-is_empty g t c =
+    contains-nowhere c.args.tree.now.root (g.T.TextTest.meaning c.args.test.now) c.args.from c.skip_steps-place.result _ _ _ c.skip_steps-place.ensures
+
+pub skip_text-returns : goal.skip_text-returns
+skip_text-returns g t c =
     let root = c.args.tree.now.root in
     let m = g.T.TextTest.meaning c.args.test.now in
     let from = c.args.from in
-    let none = contains-none root m from c.skip_selection.result _ _ c.skip_selection.ensures in
-    let nowhere = contains-nowhere root m from c.skip_steps-place.result _ _ c.skip_steps-place.ensures in
-    rw (c.max.ensures, c.in-Contains.is, view_contains)
-    (at-greater (λ n. IsFalse root m from n (form.contains (form.steps (map view.step c.in-Contains.steps)) c.in-Contains.selection)) c.skip_selection.result c.skip_steps-place.result none nowhere)
+    let s = form.steps (map view.step c.args.steps.now) in
+    let k = c.args.selection in
+    let empty = c.is_empty.ensures.0 c.if-not-is_empty.false in
+    let none = contains-none root m from c.skip_selection.result s k c.skip_selection.ensures in
+    let nowhere = contains-nowhere root m from c.skip_steps-place.result s k form.no_paths c.skip_steps-place.ensures in
+    rw (c.max.ensures, empty) (at-greater (λ n. IsFalse root m from n (form.contains s k form.no_paths)) c.skip_selection.result c.skip_steps-place.result none nowhere)
 
 -- ---- conditions joined by `or`, by `and`
 

@@ -1,5 +1,5 @@
 -- One context more is where the walk stops; after the last one all of them are.
-use Rattle.std.proofs.Common.{◌≡◌, ◌∷◌, [], ◌++◌, true, flat_map, map, sym, ap, ◌∙◌, subst, arith}
+use Rattle.std.proofs.Common.{◌≡◌, ◌∷◌, [], ◌++◌, true, flat_map, sym, ap, ◌∙◌, subst, arith}
 use Rattle.std.specs.List.{All}
 use Rattle.std.proofs.lemmas.List.{nil_from_length}
 use Rattle.std.proofs.lemmas.List.Elements.{All-nil, All-cons, All-append}
