@@ -1,0 +1,4 @@
+pub mod Without
+pub mod Holes
+pub mod Examples
+pub mod steps
