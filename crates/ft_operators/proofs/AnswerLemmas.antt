@@ -20,7 +20,9 @@ use Rattle.all_matches.proofs.WayLaws.{some_way}
 use Rattle.ft_operators.specs.declared.chain.Chain.{Chain}
 use Rattle.ft_operators.specs.declared.course.Course.{Course}
 use Rattle.ft_operators.specs.declared.extent.Extent.{Extent}
-use Rattle.ft_operators.specs.Extents.{extent_beside, extent_inside}
+use Rattle.ft_operators.specs.Extents.{extent_beside}
+use Rattle.ft_operators.specs.declared.extent.UnitExtents.{UnitExtents}
+use Rattle.ft_base.specs.declared.unit.TextUnit.TheVariants.{Words}
 use Rattle.ft_operators.specs.declared.node.Node.{Node}
 use Rattle.ft_operators.specs.Chains.{clean_now, links_of, window_now}
 use Rattle.ft_operators.specs.Course.{every, filtered_on, tellings, ways_on}
@@ -28,7 +30,7 @@ use Rattle.ft_operators.specs.Phrases.{PhraseState}
 use Rattle.ft_operators.specs.Standing.{frame, includes_now}
 use Rattle.ft_operators.specs.Walk.{tuple_of}
 use Rattle.ft_operators.specs.steps.Cleaning.{tells, Asked, MayAsk}
-use Rattle.ft_operators.specs.steps.Measuring.{holds}
+use Rattle.ft_operators.specs.steps.Measuring.{are_held, holds}
 use Rattle.ft_operators.specs.steps.Forms.{sieve_left, chosen_left, choices_at}
 use Rattle.ft_operators.specs.steps.Nodes.{standing, frame_of, shape_of}
 use Rattle.ft_operators.specs.steps.Walking.{IsHeld}
@@ -41,11 +43,11 @@ use Rattle.ft_operators.proofs.TupleLemmas.{shown, shown_ways, kept_frame, stand
 
 -- ---- a selection is satisfied where some way is clean under no filter
 
-pub satisfied_ways : (item : Span) (extent beside : Option Extent) (operator : Operator) (links : List Link) → links ≡ [] → is_plain operator ≡ true
-    → holds extent (extent_inside operator) ≡ true → holds beside (extent_beside operator) ≡ true
-    → list_any (clean_under (kept_by links)) (ways_on (tellings item extent beside) operator) ≡ satisfied (matches_of item operator)
-satisfied_ways item extent beside operator links none plain held out =
-    clean_told item extent beside operator (kept_by links) held out
+pub satisfied_ways : (item : Span) (extents : UnitExtents) (beside : Option Extent) (operator : Operator) (links : List Link) → links ≡ [] → is_plain operator ≡ true
+    → are_held extents operator ≡ true → holds beside (extent_beside Words operator) ≡ true
+    → list_any (clean_under (kept_by links)) (ways_on (tellings item extents beside) operator) ≡ satisfied (matches_of item operator)
+satisfied_ways item extents beside operator links none plain held out =
+    clean_told item extents beside operator (kept_by links) held out
     ∙ ap (λ ls. list_any (clean_under (kept_by ls)) (ways_of item operator)) none
     ∙ sym (list_any-alike is_clean (survives (kept_by [])) (matches_of item operator) clean-survives ∙ some_way item operator (kept_by []) plain)
 

@@ -15,16 +15,16 @@ use Rattle.ft_base.specs.declared.unit.TextUnit.{TextUnit}
 use Rattle.ft_base.specs.declared.unit.TextUnit.TheVariants.{Words, Sentences, Paragraphs}
 use Rattle.all_matches.specs.Filters.{passes, after}
 use Rattle.all_matches.specs.Join.{join, least, greatest}
-use Rattle.all_matches.specs.Positions.{share_one, agree_in_order}
+use Rattle.all_matches.specs.Positions.{start_in, end_in, share_one, agree_in_order}
 use Rattle.all_matches.specs.Window.{fits_window}
-use Rattle.ft_operators.specs.declared.extent.Extent.{Extent}
+use Rattle.ft_operators.specs.declared.extent.UnitExtents.{UnitExtents}
 use Rattle.ft_operators.specs.Bounds.{no_reach, any_order, everywhere, is_before, lies_between, is_allowed, lies_in, fit_together, stands_behind, agrees, are_within}
-use Rattle.ft_operators.specs.Bounds.{numbers_round, order_behind, round_hit, round_hits, smaller, window_reach, filter_reach, before_joining, filter_bounds}
+use Rattle.ft_operators.specs.Bounds.{numbers_round, order_behind, round_hit, round_hits, smaller, unit_reach, window_reach, filter_reach, before_joining, filter_bounds}
 use Rattle.ft_operators.specs.declared.bounds.Bounds.{Bounds}
 use Rattle.ft_operators.specs.declared.bounds.UnitBounds.{UnitBounds}
 use Rattle.ft_operators.specs.declared.bounds.OrderBound.{OrderBound}
 use Rattle.ft_operators.specs.declared.reach.Reach.{Reach}
-use Rattle.ft_operators.specs.Extents.{most_between, spread}
+use Rattle.ft_operators.specs.Extents.{extent_in, greatest_value, spread}
 use Rattle.ft_operators.proofs.SpreadLemmas.{few_where, lies_from, spread_in, SpreadIn}
 
 -- ---- tests of all elements of a list
@@ -38,7 +38,7 @@ module _ {X : Type 0} where
   all_more p q more [] h = refl
   all_more p q more (x ∷ xs) h = let parts = and_parts (p x) (list_all p xs) h in λ i. more x parts.0 i && all_more p q more xs parts.1 i
 
-  all_both : (p q r : X → Bool) → ((x : X) → p x ≡ true → q x ≡ true → r x ≡ true) → (xs : List X) → list_all p xs ≡ true → list_all q xs ≡ true → list_all r xs ≡ true
+  pub all_both : (p q r : X → Bool) → ((x : X) → p x ≡ true → q x ≡ true → r x ≡ true) → (xs : List X) → list_all p xs ≡ true → list_all q xs ≡ true → list_all r xs ≡ true
   all_both p q r both [] h k = refl
   all_both p q r both (x ∷ xs) h k =
       let a = and_parts (p x) (list_all p xs) h in
@@ -55,10 +55,10 @@ module _ {X : Type 0} where
   pairs_both p q r both xs h k =
       all_both (λ x. list_all (p x) xs) (λ x. list_all (q x) xs) (λ x. list_all (r x) xs) (λ x a b. all_both (p x) (q x) (r x) (both x) xs a b) xs h k
 
-  first_part : (p : X → Bool) (xs ys : List X) → list_all p (xs ++ ys) ≡ true → list_all p xs ≡ true
+  pub first_part : (p : X → Bool) (xs ys : List X) → list_all p (xs ++ ys) ≡ true → list_all p xs ≡ true
   first_part p xs ys h = (and_parts (list_all p xs) (list_all p ys) (sym (list_all-append p xs ys) ∙ h)).0
 
-  last_part : (p : X → Bool) (xs ys : List X) → list_all p (xs ++ ys) ≡ true → list_all p ys ≡ true
+  pub last_part : (p : X → Bool) (xs ys : List X) → list_all p (xs ++ ys) ≡ true → list_all p ys ≡ true
   last_part p xs ys h = (and_parts (list_all p xs) (list_all p ys) (sym (list_all-append p xs ys) ∙ h)).1
 
 -- ---- no bounds
@@ -228,29 +228,41 @@ window_agree size Sentences first rest h = all_fit (λ hit. hit.sent_from) (λ h
 window_agree size Paragraphs first rest h = all_fit (λ hit. hit.para_from) (λ hit. hit.para_to) first rest size (agrees (window_reach size Paragraphs)) (λ a b e i. e i && true) h
 
 -- what a distance that is passed says of every two of so few
-agree_words : (words : Option ℕ) (hits : List Hit) → ((size : ℕ) → words ≡ Some size → SpreadIn size hits)
-    → list_all (λ a. list_all (agrees (record no_reach { words = words }) a) hits) hits ≡ true
-agree_words None hits said = all_pass (λ a. list_all (λ b. true) hits) (λ a. all_pass (λ b. true) (λ b. refl) hits) hits
-agree_words (Some size) hits said =
+agree_unit : (kind : TextUnit) (size : ℕ) (a b : Hit) → fit_together (Some size) (start_in kind a) (end_in kind a) (start_in kind b) (end_in kind b) ≡ true
+    → agrees (unit_reach kind (Some size)) a b ≡ true
+agree_unit Words size a b e = λ i. e i && true
+agree_unit Sentences size a b e = λ i. e i && true
+agree_unit Paragraphs size a b e = λ i. e i && true
+
+agree_nowhere : (kind : TextUnit) (a b : Hit) → agrees (unit_reach kind None) a b ≡ true
+agree_nowhere Words a b = refl
+agree_nowhere Sentences a b = refl
+agree_nowhere Paragraphs a b = refl
+
+agree_spread : (kind : TextUnit) (size : Option ℕ) (hits : List Hit) → ((n : ℕ) → size ≡ Some n → SpreadIn kind n hits)
+    → list_all (λ a. list_all (agrees (unit_reach kind size) a) hits) hits ≡ true
+agree_spread kind None hits said = all_pass (λ a. list_all (agrees (unit_reach kind None) a) hits) (λ a. all_pass (agrees (unit_reach kind None) a) (agree_nowhere kind a) hits) hits
+agree_spread kind (Some size) hits said =
     let s = said size refl in
-    all_pairs (lies_from s.low (s.low + size)) (agrees (record no_reach { words = Some size })) (λ a b h k i. fit s.low a.from a.to b.from b.to h k i && true) hits s.all
+    all_pairs (lies_from kind s.low (s.low + size)) (agrees (unit_reach kind (Some size)))
+    (λ a b h k. agree_unit kind size a b (fit s.low (start_in kind a) (end_in kind a) (start_in kind b) (end_in kind b) h k)) hits s.all
   where
     fit : (low a_first a_last b_first b_last : ℕ) → (nat_le low a_first && nat_lt a_last (low + size)) ≡ true → (nat_le low b_first && nat_lt b_last (low + size)) ≡ true
         → fit_together (Some size) a_first a_last b_first b_last ≡ true
     fit low a_first a_last b_first b_last h k = grind (arith, nat_tests)
 
--- the includes before a filter, of which an extent says how many there are
-abbrev pub few_at : Option Extent → Filter → List Hit → Bool
-few_at extent F.Ordered hits = true
-few_at extent (F.Window size kind) hits = true
-few_at extent (F.Distance range kind) hits = few_where (most_between range kind) extent hits
-few_at extent F.SameSentence hits = true
-few_at extent F.SameParagraph hits = true
-few_at extent F.DifferentSentence hits = true
-few_at extent F.DifferentParagraph hits = true
-few_at extent F.AtStart hits = true
-few_at extent F.AtEnd hits = true
-few_at extent F.EntireContent hits = true
+-- the includes before a filter, of which extents say how many there are
+abbrev pub few_at : UnitExtents → Filter → List Hit → Bool
+few_at extents F.Ordered hits = true
+few_at extents (F.Window size kind) hits = true
+few_at extents (F.Distance range kind) hits = few_where (greatest_value range) kind (extent_in kind extents) hits
+few_at extents F.SameSentence hits = true
+few_at extents F.SameParagraph hits = true
+few_at extents F.DifferentSentence hits = true
+few_at extents F.DifferentParagraph hits = true
+few_at extents F.AtStart hits = true
+few_at extents F.AtEnd hits = true
+few_at extents F.EntireContent hits = true
 
 -- what a scope says
 one_window : (size : Option ℕ) (a_first a_last b_first b_last : ℕ) → fit_together size a_first a_last b_first b_last ≡ true
@@ -301,32 +313,33 @@ with_pairs bounds p q r both hits h k =
     λ i. parts.0 i && pairs_both p q r both hits parts.1 k i
 
 -- what a filter lets through was within what it says, and within what those round it say
-pub filter_within : (extent : Option Extent) (kind : Filter) (item : Span) (bounds : Bounds) (reach : Reach) (hits : List Hit) → passes kind hits item ≡ true → few_at extent kind hits ≡ true
-    → are_within bounds reach (after kind hits) ≡ true → are_within (filter_bounds kind bounds) (filter_reach extent kind reach) hits ≡ true
-filter_within extent F.Ordered item bounds reach hits p few h =
-    with_pairs bounds (agrees reach) (stands_behind true) (agrees (filter_reach extent F.Ordered reach))
+pub filter_within : (extents : UnitExtents) (kind : Filter) (item : Span) (bounds : Bounds) (reach : Reach) (hits : List Hit) → passes kind hits item ≡ true → few_at extents kind hits ≡ true
+    → are_within bounds reach (after kind hits) ≡ true → are_within (filter_bounds kind bounds) (filter_reach extents kind reach) hits ≡ true
+filter_within extents F.Ordered item bounds reach hits p few h =
+    with_pairs bounds (agrees reach) (stands_behind true) (agrees (filter_reach extents F.Ordered reach))
     (λ a b e f. last_part_of (fit_together reach.words a.from a.to b.from b.to) (fit_together reach.sentences a.sent_from a.sent_to b.sent_from b.sent_to)
     (fit_together reach.paragraphs a.para_from a.para_to b.para_from b.para_to) (stands_behind reach.ordered a b) (stands_behind true a b) f e) hits h (all_behind hits p)
-filter_within extent (F.Window size kind) item bounds reach [] p few h = refl
-filter_within extent (F.Window size kind) item bounds reach (first ∷ rest) p few h = λ i. all_joined bounds reach first rest h i && window_agree size kind first rest p i
-filter_within extent (F.Distance range kind) item bounds reach [] p few h = refl
-filter_within extent (F.Distance range kind) item bounds reach (first ∷ rest) p few h =
+filter_within extents (F.Window size kind) item bounds reach [] p few h = refl
+filter_within extents (F.Window size kind) item bounds reach (first ∷ rest) p few h = λ i. all_joined bounds reach first rest h i && window_agree size kind first rest p i
+filter_within extents (F.Distance range kind) item bounds reach [] p few h = refl
+filter_within extents (F.Distance range kind) item bounds reach (first ∷ rest) p few h =
     let hits = first ∷ rest in
-    λ i. all_joined bounds reach first rest h i && agree_words (spread extent (most_between range kind)) hits (λ size is. spread_in extent range kind size hits is p few) i
-filter_within extent F.SameSentence item bounds reach hits p few h =
-    with_pairs bounds (agrees reach) (share_one Sentences) (agrees (filter_reach extent F.SameSentence reach))
+    λ i. all_joined bounds reach first rest h i && agree_spread kind (spread (extent_in kind extents) (greatest_value range)) hits
+    (λ size is. spread_in (extent_in kind extents) range kind (greatest_value range) size hits refl is p few) i
+filter_within extents F.SameSentence item bounds reach hits p few h =
+    with_pairs bounds (agrees reach) (share_one Sentences) (agrees (filter_reach extents F.SameSentence reach))
     (λ a b e f. second_part (fit_together reach.words a.from a.to b.from b.to) (fit_together reach.sentences a.sent_from a.sent_to b.sent_from b.sent_to)
     (fit_together (Some (smaller reach.sentences 1)) a.sent_from a.sent_to b.sent_from b.sent_to)
     (fit_together reach.paragraphs a.para_from a.para_to b.para_from b.para_to && stands_behind reach.ordered a b)
     (λ g. one_window reach.sentences a.sent_from a.sent_to b.sent_from b.sent_to g f) e) hits h p
-filter_within extent F.SameParagraph item bounds reach hits p few h =
-    with_pairs bounds (agrees reach) (share_one Paragraphs) (agrees (filter_reach extent F.SameParagraph reach))
+filter_within extents F.SameParagraph item bounds reach hits p few h =
+    with_pairs bounds (agrees reach) (share_one Paragraphs) (agrees (filter_reach extents F.SameParagraph reach))
     (λ a b e f. third_part (fit_together reach.words a.from a.to b.from b.to) (fit_together reach.sentences a.sent_from a.sent_to b.sent_from b.sent_to)
     (fit_together reach.paragraphs a.para_from a.para_to b.para_from b.para_to) (fit_together (Some (smaller reach.paragraphs 1)) a.para_from a.para_to b.para_from b.para_to)
     (stands_behind reach.ordered a b)
     (λ g. one_window reach.paragraphs a.para_from a.para_to b.para_from b.para_to g f) e) hits h p
-filter_within extent F.DifferentSentence item bounds reach hits p few h = h
-filter_within extent F.DifferentParagraph item bounds reach hits p few h = h
-filter_within extent F.AtStart item bounds reach hits p few h = h
-filter_within extent F.AtEnd item bounds reach hits p few h = h
-filter_within extent F.EntireContent item bounds reach hits p few h = h
+filter_within extents F.DifferentSentence item bounds reach hits p few h = h
+filter_within extents F.DifferentParagraph item bounds reach hits p few h = h
+filter_within extents F.AtStart item bounds reach hits p few h = h
+filter_within extents F.AtEnd item bounds reach hits p few h = h
+filter_within extents F.EntireContent item bounds reach hits p few h = h

@@ -10,7 +10,7 @@ use Rattle.ft_base.specs.declared.hit.Hit.{Hit}
 use Rattle.all_matches.specs.declared.window.Window.{Window}
 use Rattle.all_matches.specs.Chain.{Link, kept_by}
 use Rattle.all_matches.specs.Filters.{passes, choices}
-use Rattle.all_matches.specs.Ways.{Operator, either, apart, negated, through_filter, matches_of, ways_of, Way, one_hit, turned_about, by_filter, way_includes, clean_under, without_negation, is_plain, bare_match}
+use Rattle.all_matches.specs.Ways.{Operator, either, together, apart, negated, through_filter, matches_of, ways_of, Way, one_hit, turned_about, by_filter, way_includes, clean_under, without_negation, is_plain, bare_match}
 use Rattle.all_matches.proofs.BareWays.{bare_matches}
 use Rattle.all_matches.proofs.ListTests.{list_any-map}
 use Rattle.all_matches.proofs.PlainOperators.{plain-positive}
@@ -22,15 +22,16 @@ use Rattle.ft_operators.specs.KeptBounds.{chain_bounds}
 use Rattle.ft_operators.specs.declared.chain.Chain.{Chain}
 use Rattle.ft_operators.specs.Chains.{all_kept, passes_now, clean_now, links_of, spare_filters, spare_hits, IsKept}
 use Rattle.ft_operators.specs.Phrases.{PhraseState}
-use Rattle.ft_operators.specs.Standing.{Frame, Standing, frame, at_prefix, one_on, includes_now, one_aims}
+use Rattle.ft_operators.specs.Standing.{Frame, Standing, course_now, frame, at_prefix, one_on, includes_now, one_aims}
 use Rattle.ft_operators.specs.steps.Cleaning.{tells, Searched, Searching, MayAsk, Asked, Deciding, Decided}
-use Rattle.ft_operators.specs.Extents.{extent_before, extent_beside, extent_inside, extent_of, extent_of_either}
-use Rattle.ft_operators.specs.steps.Measuring.{holds}
-use Rattle.ft_operators.specs.steps.Forms.{phrase_of, apart_of, apart_left, negation_of, negated_shape, sieve_of, sieve_left, chosen_left, choices_of, choices_at}
+use Rattle.ft_operators.specs.Extents.{extent_beside, extent_of, extent_of_either}
+use Rattle.ft_base.specs.declared.unit.TextUnit.TheVariants.{Words}
+use Rattle.ft_operators.specs.steps.Measuring.{are_held, holds}
+use Rattle.ft_operators.specs.steps.Forms.{phrase_of, choice_of, first_left, both_of, pairs_left, apart_of, apart_left, negation_of, negated_shape, sieve_of, sieve_left, chosen_left, choices_of, choices_at}
 use Rattle.ft_operators.specs.steps.Walking.{Gathered, IsHeld, Moved, MayGoOn}
 use Rattle.ft_operators.proofs.ChainLemmas.{kept_refl, kept_trans}
 use Rattle.ft_operators.proofs.CourseLemmas.{kept_told}
-use Rattle.ft_operators.proofs.ExtentLemmas.{holds_both}
+use Rattle.ft_operators.proofs.ExtentLemmas.{held_apart, held_both, held_either, held_inside, held_negated, holds_both}
 use Rattle.ft_operators.proofs.KeptLemmas.{kept_lies}
 use Rattle.ft_operators.proofs.SieveLemmas.{fewer, lead_below, sieve_operand_there}
 
@@ -141,26 +142,26 @@ asked_phrase course s node chain room start is = record {
 -- what is told of an operator is told of its operands
 pub tells_both : (course : Course) (left right : Operator) → tells course (either left right) ≡ true → (tells course left ≡ true) × (tells course right ≡ true)
 tells_both course left right h =
-    let parts = and_parts (is_plain left && is_plain right) (holds course.extent (extent_inside (either left right)) && holds course.beside (extent_beside (either left right))) h in
+    let parts = and_parts (is_plain left && is_plain right) (are_held course.extents (either left right) && holds course.beside (extent_beside Words (either left right))) h in
     let plain = and_parts (is_plain left) (is_plain right) parts.0 in
-    let said = and_parts (holds course.extent (extent_inside (either left right))) (holds course.beside (extent_beside (either left right))) parts.1 in
-    let held = holds_both course.extent (extent_inside left) (extent_inside right) said.0 in
-    let out = holds_both course.beside (extent_beside left) (extent_beside right) said.1 in
+    let said = and_parts (are_held course.extents (either left right)) (holds course.beside (extent_beside Words (either left right))) parts.1 in
+    let held = held_either left right course.extents said.0 in
+    let out = holds_both course.beside (extent_beside Words left) (extent_beside Words right) said.1 in
     (λ i. plain.0 i && (held.0 i && out.0 i), λ i. plain.1 i && (held.1 i && out.1 i))
 
 tells_apart : (course : Course) (left right : Operator) → tells course (apart left right) ≡ true → tells course left ≡ true
 tells_apart course left right h =
-    let parts = and_parts (without_negation left && without_negation right) (holds course.extent (extent_inside (apart left right)) && holds course.beside (extent_beside (apart left right))) h in
-    let said = and_parts (holds course.extent (extent_inside (apart left right))) (holds course.beside (extent_beside (apart left right))) parts.1 in
-    let out = (holds_both course.beside (extent_of right) (extent_of_either (extent_beside left) (extent_beside right)) said.1).1 in
+    let parts = and_parts (without_negation left && without_negation right) (are_held course.extents (apart left right) && holds course.beside (extent_beside Words (apart left right))) h in
+    let said = and_parts (are_held course.extents (apart left right)) (holds course.beside (extent_beside Words (apart left right))) parts.1 in
+    let out = (holds_both course.beside (extent_of Words right) (extent_of_either (extent_beside Words left) (extent_beside Words right)) said.1).1 in
     λ i. plain-positive left (and_parts (without_negation left) (without_negation right) parts.0).0 i
-    && ((holds_both course.extent (extent_inside left) (extent_inside right) said.0).0 i && (holds_both course.beside (extent_beside left) (extent_beside right) out).0 i)
+    && ((held_apart left right course.extents said.0).0 i && (holds_both course.beside (extent_beside Words left) (extent_beside Words right) out).0 i)
 
 tells_inside : (course : Course) (kind : Filter) (operand : Operator) → tells course (through_filter operand kind) ≡ true → tells course operand ≡ true
 tells_inside course kind operand h =
-    let parts = and_parts (is_plain operand) (holds course.extent (extent_inside (through_filter operand kind)) && holds course.beside (extent_beside operand)) h in
-    let said = and_parts (holds course.extent (extent_inside (through_filter operand kind))) (holds course.beside (extent_beside operand)) parts.1 in
-    λ i. parts.0 i && ((holds_both course.extent (extent_inside operand) (extent_before kind (extent_of operand)) said.0).0 i && said.1 i)
+    let parts = and_parts (is_plain operand) (are_held course.extents (through_filter operand kind) && holds course.beside (extent_beside Words operand)) h in
+    let said = and_parts (are_held course.extents (through_filter operand kind)) (holds course.beside (extent_beside Words operand)) parts.1 in
+    λ i. parts.0 i && (held_inside operand kind course.extents said.0 i && said.1 i)
 
 apart_clean : (kept : Hit → Bool) (stands : Way → Bool) (xs : List Way) → clean_now kept xs ≡ clean_now kept (apart_left stands xs)
 apart_clean kept stands [] = refl
@@ -178,6 +179,84 @@ asked_apart course left right left_now before after room new_room start end answ
   grown = a.grown;
 }
 
+-- ---- two operands
+
+clean_left : (kept : Hit → Bool) (xs all : List Way) → clean_now kept xs ≡ clean_now kept (first_left xs all)
+clean_left kept [] all = refl
+clean_left kept (x ∷ xs) all = refl
+
+module _ (course : Course) (second : Bool) (left right : Standing) where
+  pub asked_second : (right_now : Standing) (before after : Chain) (room new_room start end : ℕ) (answer : Bool) → second ≡ true → Asked course right right_now before after room new_room start end answer
+      → Asked course (choice_of course second left right) (choice_of course second left right_now) before after room new_room start end answer
+  asked_second right_now before after room new_room start end answer is a = record {
+    same = ap (choice_of course second left) a.same;
+    clean = λ told.
+        a.clean (tells_both course left.operator right.operator told).1
+        ∙ ap (λ b. clean_now (kept_by (links_of before)) (cond b right.rest (first_left left.rest (ways_on course right.operator)))) (sym is);
+    kept = a.kept;
+    kept_room = a.kept_room;
+    grown = a.grown;
+  }
+
+  pub asked_first : (left_now : Standing) (before after : Chain) (room new_room start end : ℕ) (answer : Bool) → second ≡ false → Asked course left left_now before after room new_room start end answer
+      → Asked course (choice_of course second left right) (choice_of course second left_now right) before after room new_room start end answer
+  asked_first left_now before after room new_room start end answer is a = record {
+    same = ap (λ l. choice_of course second l right) a.same;
+    clean = λ told.
+        a.clean (tells_both course left.operator right.operator told).0
+        ∙ clean_left (kept_by (links_of before)) left.rest (ways_on course right.operator)
+        ∙ ap (λ b. clean_now (kept_by (links_of before)) (cond b right.rest (first_left left.rest (ways_on course right.operator)))) (sym is);
+    kept = a.kept;
+    kept_room = a.kept_room;
+    grown = a.grown;
+  }
+
+tells_pair : (course : Course) (left right : Operator) → tells course (together left right) ≡ true → (tells course left ≡ true) × (tells course right ≡ true)
+tells_pair course left right h =
+    let parts = and_parts (is_plain left && is_plain right) (are_held course.extents (together left right) && holds course.beside (extent_beside Words (together left right))) h in
+    let plain = and_parts (is_plain left) (is_plain right) parts.0 in
+    let said = and_parts (are_held course.extents (together left right)) (holds course.beside (extent_beside Words (together left right))) parts.1 in
+    let held = held_both left right course.extents said.0 in
+    let out = holds_both course.beside (extent_beside Words left) (extent_beside Words right) said.1 in
+    (λ i. plain.0 i && (held.0 i && out.0 i), λ i. plain.1 i && (held.1 i && out.1 i))
+
+pair_clean : (kept : Hit → Bool) (course : Course) (right : Operator) (xs ys : List Way) → is_not_empty (pairs_left course right xs ys) ≡ true
+    → (clean_now kept xs && clean_now kept ys) ≡ clean_now kept (pairs_left course right xs ys)
+pair_clean kept course right [] ys there = cc
+pair_clean kept course right (a ∷ more) [] there = cc
+pair_clean kept course right (a ∷ more) (b ∷ rest) there = refl
+
+-- the right side is one on the course beside the left one, wherever that stands
+module _ (course : Course) (left left_now : Standing) (right : List Way → Standing) (room filters hits : ℕ) (may : MayAsk (both_of course left (right left.rest)) room filters hits) where
+  pub asked_barred : (before after : Chain) (new_room start end : ℕ) (answer : Bool) → answer ≡ false → Asked course left left_now before after room new_room start end answer
+      → Asked course (both_of course left (right left.rest)) (both_of course left_now (right left_now.rest)) before after room new_room start end false
+  asked_barred before after new_room start end answer is a = record {
+    same = ap (λ l. both_of course l (right l.rest)) a.same;
+    clean = λ told.
+        let parts = tells_pair course left.operator (right left.rest).operator told in
+        ap (λ b. b && clean_now (kept_by (links_of before)) (right left.rest).rest) (sym is ∙ a.clean parts.0)
+        ∙ pair_clean (kept_by (links_of before)) course (right left.rest).operator left.rest (right left.rest).rest may.there;
+    kept = a.kept;
+    kept_room = a.kept_room;
+    grown = a.grown;
+  }
+
+  pub asked_both : (right_now : List Way → Standing) (before between after : Chain) (first_room second_room new_room start middle end : ℕ) (first answer : Bool) → first ≡ true → first_room ≤ second_room
+      → Asked course left left_now before between room first_room start middle first → Asked (course_now course left.rest) (right left.rest) (right_now left.rest) between after second_room new_room middle end answer
+      → Asked course (both_of course left (right left.rest)) (both_of course left_now (right_now left_now.rest)) before after room new_room start end answer
+  asked_both right_now before between after first_room second_room new_room start middle end first answer is more a b = record {
+    same = ap (λ l. both_of course l (right_now l.rest)) a.same ∙ ap (both_of course left) b.same;
+    clean = λ told.
+        let parts = tells_pair course left.operator (right left.rest).operator told in
+        b.clean parts.1
+        ∙ ap (λ links. clean_now (kept_by links) (right left.rest).rest) a.kept.links
+        ∙ ap (λ c. c && clean_now (kept_by (links_of before)) (right left.rest).rest) (sym is ∙ a.clean parts.0)
+        ∙ pair_clean (kept_by (links_of before)) course (right left.rest).operator left.rest (right left.rest).rest may.there;
+    kept = kept_trans before between after a.kept b.kept;
+    kept_room = omega (arith, a.kept_room, more, b.kept_room);
+    grown = omega (arith, a.grown, b.grown);
+  }
+
 -- a negated selection, wherever a walk through its operand stands
 negation_by : Course → Bool → Frame → Standing
 negation_by course there f = record {
@@ -189,15 +268,15 @@ negation_by course there f = record {
 
 -- the course of what is asked under a chain
 abbrev pub excludes_course : Course → List Link → Course
-excludes_course course links = firsts course.item (chain_bounds links everywhere) course.extent course.beside
+excludes_course course links = firsts course.item (chain_bounds links everywhere) course.extents course.beside
 
 -- some Match has all its hits kept exactly where some way has
 pub some_kept : (course : Course) (operator : Operator) (links : List Link) → tells course (negated operator) ≡ true
     → list_any (all_kept (kept_by links)) (ways_on (excludes_course course links) operator) ≡ list_any (λ m. list_all (kept_by links) m.includes) (matches_of course.item operator)
 some_kept course operator links told =
-    let parts = and_parts (without_negation operator) (holds course.extent (extent_inside operator) && holds course.beside (extent_beside operator)) told in
-    let said = and_parts (holds course.extent (extent_inside operator)) (holds course.beside (extent_beside operator)) parts.1 in
-    kept_told course.item (chain_bounds links everywhere) course.extent course.beside operator (kept_by links) (kept_lies links) said.0 said.1
+    let parts = and_parts (without_negation operator) (are_held course.extents (negated operator) && holds course.beside (extent_beside Words operator)) told in
+    let said = and_parts (are_held course.extents (negated operator)) (holds course.beside (extent_beside Words operator)) parts.1 in
+    kept_told course.item (chain_bounds links everywhere) course.extents course.beside operator (kept_by links) (kept_lies links) (sym (held_negated operator course.extents) ∙ said.0) said.1
     ∙ sym (list_any-map (λ m. list_all (kept_by links) m.includes) bare_match (ways_of course.item operator))
     ∙ ap (list_any (λ m. list_all (kept_by links) m.includes)) (sym (bare_matches course.item operator parts.0))
 

@@ -17,11 +17,13 @@ use Rattle.ft_operators.specs.declared.course.Course.{Course}
 use Rattle.ft_operators.specs.declared.extent.Extent.{Extent}
 use Rattle.ft_operators.specs.Chains.{links_of}
 use Rattle.ft_operators.specs.Course.{tellings, ways_on}
-use Rattle.ft_operators.specs.Extents.{extent_beside, extent_inside}
+use Rattle.ft_operators.specs.Extents.{extent_beside}
+use Rattle.ft_operators.specs.declared.extent.UnitExtents.{UnitExtents}
+use Rattle.ft_base.specs.declared.unit.TextUnit.TheVariants.{Words}
 use Rattle.ft_operators.specs.Standing.{Standing}
 use Rattle.ft_operators.specs.steps.Cleaning.{tells}
 use Rattle.ft_operators.specs.steps.Comparing.{Comparing, least_after, lesser_now, so_far}
-use Rattle.ft_operators.specs.steps.Measuring.{holds}
+use Rattle.ft_operators.specs.steps.Measuring.{are_held, holds}
 use Rattle.ft_operators.specs.steps.Ordering.{is_before, rise}
 use Rattle.ft_operators.proofs.CourseLemmas.{any_kept, clean_and_told}
 use Rattle.ft_operators.proofs.OrderedWays.{first-stays}
@@ -99,16 +101,16 @@ rise_on (way ∷ rest) h = (and_parts (list_all (is_before way) rest) (rise rest
 any_includes : (p : List Hit → Bool) (test : Way → Bool) (ways : List Way) → list_any p (map way_includes (filter test ways)) ≡ list_any (λ way. test way && p (way_includes way)) ways
 any_includes p test ways = list_any-map p way_includes (filter test ways) ∙ any_kept (λ way. p (way_includes way)) test ways
 
-pub least_told : (item : Span) (extent beside : Option Extent) (operator : Operator) (links : List Link) → links ≡ [] → holds extent (extent_inside operator) ≡ true → holds beside (extent_beside operator) ≡ true
-    → spans_of (least (map way_includes (filter (clean_under (kept_by links)) (ways_on (tellings item extent beside) operator))))
+pub least_told : (item : Span) (extents : UnitExtents) (beside : Option Extent) (operator : Operator) (links : List Link) → links ≡ [] → are_held extents operator ≡ true → holds beside (extent_beside Words operator) ≡ true
+    → spans_of (least (map way_includes (filter (clean_under (kept_by links)) (ways_on (tellings item extents beside) operator))))
     ≡ spans_of (least (map way_includes (filter (clean_under (kept_by [])) (ways_of item operator))))
-least_told item extent beside operator links none held out =
-    ap (λ ls. spans_of (least (map way_includes (filter (clean_under (kept_by ls)) (ways_on (tellings item extent beside) operator))))) none
+least_told item extents beside operator links none held out =
+    ap (λ ls. spans_of (least (map way_includes (filter (clean_under (kept_by ls)) (ways_on (tellings item extents beside) operator))))) none
     ∙ least-alike (map way_includes (filter test told)) (map way_includes (filter test (ways_of item operator)))
-    (λ p. any_includes p test told ∙ clean_and_told item extent beside operator (kept_by []) p held out ∙ sym (any_includes p test (ways_of item operator)))
+    (λ p. any_includes p test told ∙ clean_and_told item extents beside operator (kept_by []) p held out ∙ sym (any_includes p test (ways_of item operator)))
   where
     test : Way → Bool
     test = clean_under (kept_by [])
 
     told : List Way
-    told = ways_on (tellings item extent beside) operator
+    told = ways_on (tellings item extents beside) operator

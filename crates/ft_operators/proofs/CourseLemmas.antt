@@ -9,6 +9,7 @@ use Rattle.ft_base.specs.Lists.{is_not_empty}
 use Rattle.ft_base.specs.declared.filter.Filter.{Filter}
 use Rattle.ft_base.specs.declared.hit.Hit.{Hit}
 use Rattle.ft_base.specs.declared.span.Span.{Span}
+use Rattle.ft_base.specs.declared.unit.TextUnit.TheVariants.{Words}
 use Rattle.all_matches.specs.declared.window.Window.{Window}
 use Rattle.all_matches.specs.Filters.{passes, choices, after}
 use Rattle.all_matches.specs.MildNot.{stands_out}
@@ -20,18 +21,21 @@ use Rattle.ft_operators.specs.declared.course.Windows.{Windows}
 use Rattle.ft_operators.specs.declared.course.Windows.TheVariants.{Each, Telling, First}
 use Rattle.ft_operators.specs.Chains.{all_kept}
 use Rattle.ft_operators.specs.Bounds.{agrees, are_within, bounds_inside, everywhere, lies_in, reach_inside, round_hits}
-use Rattle.ft_operators.specs.Extents.{extent_before, extent_beside, extent_inside, extent_of, extent_of_either}
+use Rattle.ft_operators.specs.Extents.{extent_beside, extent_of, extent_of_either}
+use Rattle.ft_operators.specs.Starts.{hits_of}
 use Rattle.ft_operators.specs.Course.{admitted, asked_for, course_beside, course_out, passes_out, stands_on, course_inside, filtered_on, ways_on, without_bounds, every, tellings, firsts}
 use Rattle.ft_operators.specs.declared.bounds.Bounds.{Bounds}
 use Rattle.ft_operators.specs.declared.extent.Extent.{Extent}
+use Rattle.ft_operators.specs.declared.extent.UnitExtents.{UnitExtents}
 use Rattle.ft_operators.specs.declared.reach.Reach.{Reach}
-use Rattle.ft_operators.specs.steps.Measuring.{holds}
+use Rattle.ft_operators.specs.steps.Measuring.{are_held, holds}
 use Rattle.ft_operators.proofs.BoundLemmas.{all_lie, all_more, all_pass, few_at, filter_within, sides_within}
 use Rattle.ft_operators.proofs.ApartLemmas.{out_is}
-use Rattle.ft_operators.proofs.ExtentLemmas.{few_before, few_inside, few_more, few_ways, holds_both}
+use Rattle.ft_operators.proofs.ExtentLemmas.{few_before, few_inside, few_more, few_ways, held_apart, held_both, held_either, held_inside, holds_both}
 use Rattle.ft_operators.proofs.OutLemmas.{admitted_out, has_word, lies_beside_all, out_still, out_wordless}
 use Rattle.ft_operators.proofs.ServeLemmas.{Asks, Respects, choices_tell, serves_filtered, serves_left, serves_right}
 use Rattle.ft_operators.proofs.SpreadLemmas.{are_few}
+use Rattle.ft_operators.proofs.StartLemmas.{words_rise}
 use Rattle.ft_operators.proofs.TellingLemmas.{any_more}
 
 -- ---- every way
@@ -109,35 +113,35 @@ Narrows First = ⊤
 
 -- a test that only ways pass whose includes lie in the bounds and agree, with as few before their distances as the course says
 abbrev pub Bounded : Course → (Way → Bool) → Type 0
-Bounded course test = (way : Way) → test way ≡ true → (are_within course.bounds course.reach (way_includes way) && few_before course.extent way) ≡ true
+Bounded course test = (way : Way) → test way ≡ true → (are_within course.bounds course.reach (way_includes way) && few_before course.extents way) ≡ true
 
 -- the same of a test of ways that are so few, and without bounds
 abbrev pub few_and : Course → (Way → Bool) → Way → Bool
-few_and course test way = few_before course.extent way && test way
+few_and course test way = few_before course.extents way && test way
 
 pub bounded_nowhere : (course : Course) (test : Way → Bool) → Bounded (without_bounds course) (few_and course test)
 bounded_nowhere course test way h =
     let hits = way_includes way in
-    let few = and_parts (few_before course.extent way) (test way) h in
+    let few = and_parts (few_before course.extents way) (test way) h in
     λ i. (all_pass (lies_in everywhere) all_lie hits i && all_pass (λ hit. list_all (λ other. true) hits) (λ hit. all_pass (λ other. true) (λ other. refl) hits) hits i) && few.0 i
 
 few_respects : (asked : Type 0) (course : Course) (test : Way → Bool) → Respects asked test → Respects asked (few_and course test)
 few_respects asked course test respects better way s h =
-    let parts = and_parts (few_before course.extent way) (test way) h in
-    λ i. s.few course.extent parts.0 i && respects better way s parts.1 i
+    let parts = and_parts (few_before course.extents way) (test way) h in
+    λ i. s.few course.extents parts.0 i && respects better way s parts.1 i
 
 any_few : (few test : Way → Bool) (ways : List Way) → list_all few ways ≡ true → list_any (λ way. few way && test way) ways ≡ list_any test ways
 any_few few test [] h = refl
 any_few few test (way ∷ rest) h = let parts = and_parts (few way) (list_all few rest) h in λ i. (parts.0 i && test way) || any_few few test rest parts.1 i
 
 -- each way is so few where the extent holds
-told_few : (course : Course) (operator : Operator) (test : Way → Bool) → holds course.extent (extent_inside operator) ≡ true
+told_few : (course : Course) (operator : Operator) (test : Way → Bool) → are_held course.extents operator ≡ true
     → list_any (few_and course test) (ways_on course operator) ≡ list_any (few_and course test) (ways_of course.item operator)
     → list_any test (ways_on course operator) ≡ list_any test (ways_of course.item operator)
 told_few course operator test held same =
-    let few = few_before course.extent in
-    sym (any_few few test (ways_on course operator) (few_inside operator course course.extent held)) ∙ same
-    ∙ any_few few test (ways_of course.item operator) (ap (list_all few) (sym (ways_every course.item operator)) ∙ few_inside operator (every course.item) course.extent held)
+    let few = few_before course.extents in
+    sym (any_few few test (ways_on course operator) (few_inside operator course course.extents held)) ∙ same
+    ∙ any_few few test (ways_of course.item operator) (ap (list_all few) (sym (ways_every course.item operator)) ∙ few_inside operator (every course.item) course.extents held)
 
 hits_within : (course : Course) (test : Way → Bool) → Bounded course test → (found : List Hit) → list_any test (map one_hit (filter (lies_in course.bounds) found)) ≡ list_any test (map one_hit found)
 hits_within course test bounded [] = refl
@@ -162,27 +166,27 @@ any_gives p c each (x ∷ xs) h = by_test (p x) (each x) (any_gives p c each xs)
     by_test true here later e = here refl
     by_test false here later e = later e
 
-inside_within : (windows : Windows) → Narrows windows → (extent : Option Extent) (kind : Filter) (item : Span) (bounds : Bounds) (reach : Reach) (hits : List Hit) → passes kind hits item ≡ true
-    → few_at extent kind hits ≡ true → are_within bounds reach (after kind hits) ≡ true → are_within (bounds_inside windows kind bounds) (reach_inside windows extent kind reach) hits ≡ true
-inside_within Each narrows extent kind item bounds reach hits p few h = absurd narrows
-inside_within Telling narrows extent kind item bounds reach hits p few h = filter_within extent kind item bounds reach hits p few h
-inside_within First narrows extent kind item bounds reach hits p few h = filter_within extent kind item bounds reach hits p few h
+inside_within : (windows : Windows) → Narrows windows → (extents : UnitExtents) (kind : Filter) (item : Span) (bounds : Bounds) (reach : Reach) (hits : List Hit) → passes kind hits item ≡ true
+    → few_at extents kind hits ≡ true → are_within bounds reach (after kind hits) ≡ true → are_within (bounds_inside windows kind bounds) (reach_inside windows extents kind reach) hits ≡ true
+inside_within Each narrows extents kind item bounds reach hits p few h = absurd narrows
+inside_within Telling narrows extents kind item bounds reach hits p few h = filter_within extents kind item bounds reach hits p few h
+inside_within First narrows extents kind item bounds reach hits p few h = filter_within extents kind item bounds reach hits p few h
 
 -- two ways whose includes lie in the bounds and agree, with few before their distances
-pair_bounded : (course : Course) (a b : Way) → (are_within course.bounds course.reach (way_includes a ++ way_includes b) && (few_before course.extent a && few_before course.extent b)) ≡ true
-    → ((are_within course.bounds course.reach (way_includes a) && few_before course.extent a) ≡ true)
-    × ((are_within (round_hits course.reach course.bounds (way_includes a)) course.reach (way_includes b) && few_before course.extent b) ≡ true)
+pair_bounded : (course : Course) (a b : Way) → (are_within course.bounds course.reach (way_includes a ++ way_includes b) && (few_before course.extents a && few_before course.extents b)) ≡ true
+    → ((are_within course.bounds course.reach (way_includes a) && few_before course.extents a) ≡ true)
+    × ((are_within (round_hits course.reach course.bounds (way_includes a)) course.reach (way_includes b) && few_before course.extents b) ≡ true)
 pair_bounded course a b h =
-    let parts = and_parts (are_within course.bounds course.reach (way_includes a ++ way_includes b)) (few_before course.extent a && few_before course.extent b) h in
+    let parts = and_parts (are_within course.bounds course.reach (way_includes a ++ way_includes b)) (few_before course.extents a && few_before course.extents b) h in
     let sides = sides_within course.bounds course.reach (way_includes a) (way_includes b) parts.0 in
-    let few = and_parts (few_before course.extent a) (few_before course.extent b) parts.1 in
+    let few = and_parts (few_before course.extents a) (few_before course.extents b) parts.1 in
     (λ i. sides.0 i && few.0 i, λ i. sides.1 i && few.1 i)
 
 -- ---- the right side of a mild not
 
 -- whether hits don't stand out of includes which are as few as is said
 abbrev pub bars : Option Extent → List Hit → List Hit → Bool
-bars beside hits includes = are_few beside includes && not (stands_out hits includes)
+bars beside hits includes = are_few Words beside includes && not (stands_out hits includes)
 
 abbrev pub barring : Course → List Hit → Way → Bool
 barring course hits = few_and course (λ way. bars course.beside hits (way_includes way))
@@ -190,19 +194,19 @@ barring course hits = few_and course (λ way. bars course.beside hits (way_inclu
 bounded_out : (course : Course) (hits : List Hit) → Bounded (course_out course hits) (barring course hits)
 bounded_out course hits way h =
     let includes = way_includes way in
-    let parts = and_parts (few_before course.extent way) (bars course.beside hits includes) h in
-    let both = and_parts (are_few course.beside includes) (not (stands_out hits includes)) parts.1 in
+    let parts = and_parts (few_before course.extents way) (bars course.beside hits includes) h in
+    let both = and_parts (are_few Words course.beside includes) (not (stands_out hits includes)) parts.1 in
     λ i. (lies_beside_all course.beside hits includes both.0 both.1 i && all_pass (λ hit. list_all (λ other. true) includes) (λ hit. all_pass (λ other. true) (λ other. refl) includes) includes i)
     && parts.0 i
 
 -- each way of the right side is as few as is said
-beside_few : (course other : Course) (right : Operator) → holds course.beside (extent_of right) ≡ true → list_all (λ way. are_few course.beside (way_includes way)) (ways_on other right) ≡ true
+beside_few : (course other : Course) (right : Operator) → holds course.beside (extent_of Words right) ≡ true → list_all (λ way. are_few Words course.beside (way_includes way)) (ways_on other right) ≡ true
 beside_few course other right held =
-    all_more (λ way. are_few (extent_of right) (way_includes way)) (λ way. are_few course.beside (way_includes way))
-    (λ way h. few_more course.beside (extent_of right) (way_includes way) held h) (ways_on other right) (few_ways right other)
+    all_more (λ way. are_few Words (extent_of Words right) (way_includes way)) (λ way. are_few Words course.beside (way_includes way))
+    (λ way h. few_more Words course.beside (extent_of Words right) (way_includes way) held h) (ways_on other right) (few_ways Words right other (words_rise (hits_of right)))
 
 -- whether hits stand out of each way of the right side is told by those that a course leaves
-out_told : (course : Course) (right : Operator) (hits : List Hit) → holds course.extent (extent_inside right) ≡ true → holds course.beside (extent_of right) ≡ true
+out_told : (course : Course) (right : Operator) (hits : List Hit) → are_held course.extents right ≡ true → holds course.beside (extent_of Words right) ≡ true
     → ((of : List Hit → Bool) → list_any (few_and course (λ way. of (way_includes way))) (ways_on (without_bounds course) right) ≡ list_any (few_and course (λ way. of (way_includes way))) (ways_of course.item right))
     → list_any (barring course hits) (ways_on (course_out course hits) right) ≡ list_any (barring course hits) (ways_of course.item right)
     → passes_out course right hits ≡ admitted (ways_of course.item right) hits
@@ -219,10 +223,10 @@ out_told course right hits held few all some = by_test (has_word hits) refl
 
     barred : list_any (λ way. not (stands_out hits (way_includes way))) ways ≡ list_any (λ way. not (stands_out hits (way_includes way))) rights
     barred =
-        sym (any_few (λ way. are_few course.beside (way_includes way)) (λ way. not (stands_out hits (way_includes way))) ways (beside_few course (course_out course hits) right few))
+        sym (any_few (λ way. are_few Words course.beside (way_includes way)) (λ way. not (stands_out hits (way_includes way))) ways (beside_few course (course_out course hits) right few))
         ∙ told_few (course_out course hits) right (λ way. bars course.beside hits (way_includes way)) held some
-        ∙ any_few (λ way. are_few course.beside (way_includes way)) (λ way. not (stands_out hits (way_includes way))) rights
-        (ap (list_all (λ way. are_few course.beside (way_includes way))) (sym (ways_every course.item right)) ∙ beside_few course (every course.item) right few)
+        ∙ any_few (λ way. are_few Words course.beside (way_includes way)) (λ way. not (stands_out hits (way_includes way))) rights
+        (ap (list_all (λ way. are_few Words course.beside (way_includes way))) (sym (ways_every course.item right)) ∙ beside_few course (every course.item) right few)
 
     by_test : (b : Bool) → has_word hits ≡ b → admitted ways hits ≡ admitted rights hits
     by_test true word =
@@ -236,19 +240,19 @@ out_told course right hits held few all some = by_test (has_word hits) refl
         ∙ ap not (told (λ includes. not (stands_out hits includes)))
         ∙ sym (all_by_any (λ way. stands_out hits (way_includes way)) rights)) i)
 
-pub ways_tell : (operator : Operator) (course : Course) (test : Way → Bool) → Narrows course.windows → holds course.extent (extent_inside operator) ≡ true → holds course.beside (extent_beside operator) ≡ true
+pub ways_tell : (operator : Operator) (course : Course) (test : Way → Bool) → Narrows course.windows → are_held course.extents operator ≡ true → holds course.beside (extent_beside Words operator) ≡ true
     → Respects (Asks course.windows) test → Bounded course test → list_any test (ways_on course operator) ≡ list_any test (ways_of course.item operator)
 unfolding ways_on ways_of
 ways_tell (phrase found) course test narrows held out respects bounded = hits_within course test bounded found
 ways_tell (either left right) course test narrows held out respects bounded =
-    let parts = holds_both course.extent (extent_inside left) (extent_inside right) held in
-    let outs = holds_both course.beside (extent_beside left) (extent_beside right) out in
+    let parts = held_either left right course.extents held in
+    let outs = holds_both course.beside (extent_beside Words left) (extent_beside Words right) out in
     list_any-append test (ways_on course left) (ways_on course right)
     ∙ (λ i. ways_tell left course test narrows parts.0 outs.0 respects bounded i || ways_tell right course test narrows parts.1 outs.1 respects bounded i)
     ∙ sym (list_any-append test (ways_of course.item left) (ways_of course.item right))
 ways_tell (together left right) course test narrows held out respects bounded =
-    let parts = holds_both course.extent (extent_inside left) (extent_inside right) held in
-    let outs = holds_both course.beside (extent_beside left) (extent_beside right) out in
+    let parts = held_both left right course.extents held in
+    let outs = holds_both course.beside (extent_beside Words left) (extent_beside Words right) out in
     let asked = Asks course.windows in
     let rights = ways_of course.item right in
     let beside = λ (a : Way). course_beside course (way_includes a) in
@@ -263,12 +267,12 @@ ways_tell (together left right) course test narrows held out respects bounded =
     (λ b h. (sides a b h).1))
     ∙ ways_tell left course (λ a. list_any (λ b. test (two_ways a b)) rights) narrows parts.0 outs.0
     (λ better way s h. any_more (λ b. test (two_ways way b)) (λ b. test (two_ways better b)) (λ b e. respects (two_ways better b) (two_ways way b) (serves_left asked better way b s) e) rights h)
-    (λ a h. any_gives (λ b. test (two_ways a b)) (are_within course.bounds course.reach (way_includes a) && few_before course.extent a) (λ b e. (sides a b e).0) rights h)
+    (λ a h. any_gives (λ b. test (two_ways a b)) (are_within course.bounds course.reach (way_includes a) && few_before course.extents a) (λ b e. (sides a b e).0) rights h)
     ∙ sym (any_pairs test rights (ways_of course.item left))
 ways_tell (apart left right) course test narrows held out respects bounded =
-    let parts = holds_both course.extent (extent_inside left) (extent_inside right) held in
-    let more = holds_both course.beside (extent_of right) (extent_of_either (extent_beside left) (extent_beside right)) out in
-    let outs = holds_both course.beside (extent_beside left) (extent_beside right) more.1 in
+    let parts = held_apart left right course.extents held in
+    let more = holds_both course.beside (extent_of Words right) (extent_of_either (extent_beside Words left) (extent_beside Words right)) out in
+    let outs = holds_both course.beside (extent_beside Words left) (extent_beside Words right) more.1 in
     let asked = Asks course.windows in
     let rights = ways_of course.item right in
     any_kept test (stands_on course right) (ways_on course left)
@@ -292,7 +296,7 @@ ways_tell (through_filter operand kind) course test narrows held out respects bo
     any_filtered kind course test (ways_on inside operand)
     ∙ list_any-alike (λ way. passes kind (way_includes way) course.item && list_any (λ c. test (by_filter way kind c)) (asked_for course.windows (choices kind (way_includes way)))) (chosen course.item)
     (ways_on inside operand) (λ way. ap (λ b. passes kind (way_includes way) course.item && b) (choices_tell course.windows test respects way kind (way_includes way)))
-    ∙ ways_tell operand inside (chosen course.item) narrows (holds_both course.extent (extent_inside operand) (extent_before kind (extent_of operand)) held).0 out
+    ∙ ways_tell operand inside (chosen course.item) narrows (held_inside operand kind course.extents held) out
     (λ better way s h.
     let parts = and_parts (passes kind (way_includes way) course.item) (list_any (λ c. test (by_filter way kind c)) (choices kind (way_includes way))) h in
     λ i. (ap (λ hits. passes kind hits course.item) s.same ∙ parts.0) i && (ap (λ hits. list_any (λ c. test (by_filter better kind c)) (choices kind hits)) s.same
@@ -301,10 +305,10 @@ ways_tell (through_filter operand kind) course test narrows held out respects bo
     (λ way h.
     let parts = and_parts (passes kind (way_includes way) course.item) (list_any (λ c. test (by_filter way kind c)) (choices kind (way_includes way))) h in
     let behind = are_within course.bounds course.reach (after kind (way_includes way)) in
-    let few = few_at course.extent kind (way_includes way) && few_before course.extent way in
+    let few = few_at course.extents kind (way_includes way) && few_before course.extents way in
     let said = and_parts behind few (any_gives (λ c. test (by_filter way kind c)) (behind && few) (λ c e. bounded (by_filter way kind c) e) (choices kind (way_includes way)) parts.1) in
-    let fewer = and_parts (few_at course.extent kind (way_includes way)) (few_before course.extent way) said.1 in
-    λ i. inside_within course.windows narrows course.extent kind course.item course.bounds course.reach (way_includes way) parts.0 fewer.0 said.0 i && fewer.1 i)
+    let fewer = and_parts (few_at course.extents kind (way_includes way)) (few_before course.extents way) said.1 in
+    λ i. inside_within course.windows narrows course.extents kind course.item course.bounds course.reach (way_includes way) parts.0 fewer.0 said.0 i && fewer.1 i)
     ∙ sym (any_filtered kind (every course.item) test (ways_of course.item operand))
   where
     chosen : Span → Way → Bool
@@ -312,18 +316,18 @@ ways_tell (through_filter operand kind) course test narrows held out respects bo
 
 -- ---- what a walk asks
 
-pub clean_told : (item : Span) (extent beside : Option Extent) (operator : Operator) (kept : Hit → Bool) → holds extent (extent_inside operator) ≡ true → holds beside (extent_beside operator) ≡ true
-    → list_any (clean_under kept) (ways_on (tellings item extent beside) operator) ≡ list_any (clean_under kept) (ways_of item operator)
-clean_told item extent beside operator kept held out =
-    let course = tellings item extent beside in
+pub clean_told : (item : Span) (extents : UnitExtents) (beside : Option Extent) (operator : Operator) (kept : Hit → Bool) → are_held extents operator ≡ true → holds beside (extent_beside Words operator) ≡ true
+    → list_any (clean_under kept) (ways_on (tellings item extents beside) operator) ≡ list_any (clean_under kept) (ways_of item operator)
+clean_told item extents beside operator kept held out =
+    let course = tellings item extents beside in
     told_few course operator (clean_under kept) held
     (ways_tell operator course (few_and course (clean_under kept)) tt held out (few_respects ⊤ course (clean_under kept) (λ better way s h. s.clean tt kept h)) (bounded_nowhere course (clean_under kept)))
 
 -- the same of clean ways whose includes pass a test
-pub clean_and_told : (item : Span) (extent beside : Option Extent) (operator : Operator) (kept : Hit → Bool) (of : List Hit → Bool) → holds extent (extent_inside operator) ≡ true → holds beside (extent_beside operator) ≡ true
-    → list_any (λ way. clean_under kept way && of (way_includes way)) (ways_on (tellings item extent beside) operator) ≡ list_any (λ way. clean_under kept way && of (way_includes way)) (ways_of item operator)
-clean_and_told item extent beside operator kept of held out =
-    let course = tellings item extent beside in
+pub clean_and_told : (item : Span) (extents : UnitExtents) (beside : Option Extent) (operator : Operator) (kept : Hit → Bool) (of : List Hit → Bool) → are_held extents operator ≡ true → holds beside (extent_beside Words operator) ≡ true
+    → list_any (λ way. clean_under kept way && of (way_includes way)) (ways_on (tellings item extents beside) operator) ≡ list_any (λ way. clean_under kept way && of (way_includes way)) (ways_of item operator)
+clean_and_told item extents beside operator kept of held out =
+    let course = tellings item extents beside in
     told_few course operator (λ way. clean_under kept way && of (way_includes way)) held
     (ways_tell operator course (few_and course (λ way. clean_under kept way && of (way_includes way))) tt held out
     (few_respects ⊤ course (λ way. clean_under kept way && of (way_includes way)) respects) (bounded_nowhere course (λ way. clean_under kept way && of (way_includes way))))
@@ -334,14 +338,14 @@ clean_and_told item extent beside operator kept of held out =
         λ i. s.clean tt kept parts.0 i && (ap of s.same ∙ parts.1) i
 
 -- those that are kept lie in bounds
-pub kept_told : (item : Span) (bounds : Bounds) (extent beside : Option Extent) (operator : Operator) (kept : Hit → Bool) → ((hit : Hit) → kept hit ≡ true → lies_in bounds hit ≡ true)
-    → holds extent (extent_inside operator) ≡ true → holds beside (extent_beside operator) ≡ true
-    → list_any (all_kept kept) (ways_on (firsts item bounds extent beside) operator) ≡ list_any (all_kept kept) (ways_of item operator)
-kept_told item bounds extent beside operator kept lie held out =
-    let course = firsts item bounds extent beside in
+pub kept_told : (item : Span) (bounds : Bounds) (extents : UnitExtents) (beside : Option Extent) (operator : Operator) (kept : Hit → Bool) → ((hit : Hit) → kept hit ≡ true → lies_in bounds hit ≡ true)
+    → are_held extents operator ≡ true → holds beside (extent_beside Words operator) ≡ true
+    → list_any (all_kept kept) (ways_on (firsts item bounds extents beside) operator) ≡ list_any (all_kept kept) (ways_of item operator)
+kept_told item bounds extents beside operator kept lie held out =
+    let course = firsts item bounds extents beside in
     told_few course operator (all_kept kept) held
     (ways_tell operator course (few_and course (all_kept kept)) tt held out (few_respects ⊥ course (all_kept kept) (of_includes ⊥ (list_all kept)))
     (λ way h.
     let hits = way_includes way in
-    let parts = and_parts (few_before extent way) (all_kept kept way) h in
+    let parts = and_parts (few_before extents way) (all_kept kept way) h in
     λ i. (all_more kept (lies_in bounds) lie hits parts.1 i && all_pass (λ hit. list_all (λ other. true) hits) (λ hit. all_pass (λ other. true) (λ other. refl) hits) hits i) && parts.0 i))

@@ -22,8 +22,11 @@ pub mod TellingLemmas
 pub mod BoundLemmas
 pub mod KeptLemmas
 pub mod CourseLemmas
+pub mod LeftNodes
+pub mod RisingLemmas
 pub mod MeasureLemmas
 pub mod SpreadLemmas
+pub mod StartLemmas
 pub mod ExtentLemmas
 pub mod OutLemmas
 pub mod ServeLemmas

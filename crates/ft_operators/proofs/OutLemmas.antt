@@ -14,9 +14,10 @@ use Rattle.ft_operators.specs.Bounds.{all_numbers, everywhere, fit_together, lie
 use Rattle.ft_operators.specs.declared.bounds.Bounds.{Bounds}
 use Rattle.ft_operators.specs.declared.bounds.UnitBounds.{UnitBounds}
 use Rattle.ft_operators.specs.declared.course.Course.{Course}
+use Rattle.ft_base.specs.declared.unit.TextUnit.TheVariants.{Words}
 use Rattle.ft_operators.specs.declared.extent.Extent.{Extent}
 use Rattle.ft_operators.specs.Course.{admitted, course_out, every, round_words, without_bounds}
-use Rattle.ft_operators.specs.Extents.{lone_words}
+use Rattle.ft_operators.specs.Extents.{lone_size}
 use Rattle.ft_operators.proofs.BoundLemmas.{all_lie, all_pass, between_beside}
 use Rattle.ft_operators.proofs.SpreadLemmas.{are_few, is_short}
 use Rattle.ft_operators.proofs.TellingLemmas.{any_more}
@@ -47,7 +48,7 @@ no_words words (hit ∷ rest) bounds none =
 
 pub out_wordless : (course : Course) (hits : List Hit) → has_word hits ≡ false → course_out course hits ≡ without_bounds course
 out_wordless course hits none =
-    ap (λ (words : UnitBounds). record (without_bounds course) { bounds = record everywhere { words = words } }) (no_words (lone_words course.beside) hits all_numbers none)
+    ap (λ (words : UnitBounds). record (without_bounds course) { bounds = record everywhere { words = words } }) (no_words (lone_size course.beside) hits all_numbers none)
 
 -- ---- an include that covers the words of hits
 
@@ -82,10 +83,10 @@ covering hit other some none =
     to : (place : ℕ) → (covers other place || false) ≡ true → place ≤ other.to
     to place h = grind (arith, nat_tests)
 
-fits : (hit other : Hit) (words : ℕ) → other.from ≤ hit.from → hit.to ≤ other.to → is_short words other ≡ true → fit_together (Some words) hit.from hit.to other.from other.to ≡ true
+fits : (hit other : Hit) (words : ℕ) → other.from ≤ hit.from → hit.to ≤ other.to → is_short Words words other ≡ true → fit_together (Some words) hit.from hit.to other.from other.to ≡ true
 fits hit other words from to short = grind (arith, nat_tests)
 
-lies_round : (words : ℕ) (other : Hit) → is_short words other ≡ true → (hits : List Hit) (bounds : UnitBounds) → lies_between bounds other.from other.to ≡ true → stands_out hits (other ∷ []) ≡ false
+lies_round : (words : ℕ) (other : Hit) → is_short Words words other ≡ true → (hits : List Hit) (bounds : UnitBounds) → lies_between bounds other.from other.to ≡ true → stands_out hits (other ∷ []) ≡ false
     → lies_between (fold (round_words (Some words)) bounds hits) other.from other.to ≡ true
 lies_round words other short [] bounds h none = h
 lies_round words other short (hit ∷ rest) bounds h none =
@@ -101,30 +102,30 @@ lies_round words other short (hit ∷ rest) bounds h none =
 
 -- the bounds round hits
 abbrev pub out_bounds : Option Extent → List Hit → Bounds
-out_bounds beside hits = record everywhere { words = fold (round_words (lone_words beside)) all_numbers hits }
+out_bounds beside hits = record everywhere { words = fold (round_words (lone_size beside)) all_numbers hits }
 
-lies_out : (beside : Option Extent) (hits includes : List Hit) → are_few beside includes ≡ true → stands_out hits includes ≡ false → list_all (lies_in (out_bounds beside hits)) includes ≡ true
+lies_out : (beside : Option Extent) (hits includes : List Hit) → are_few Words beside includes ≡ true → stands_out hits includes ≡ false → list_all (lies_in (out_bounds beside hits)) includes ≡ true
 lies_out None hits includes few none =
     ap (λ (words : UnitBounds). list_all (lies_in (record everywhere { words = words })) includes) (unknown_words hits all_numbers) ∙ all_pass (lies_in everywhere) all_lie includes
 lies_out (Some extent) hits includes few none = by_test (nat_le extent.includes 1) refl includes few none
   where
-    by_test : (b : Bool) → nat_le extent.includes 1 ≡ b → (includes : List Hit) → are_few (Some extent) includes ≡ true → stands_out hits includes ≡ false
-        → list_all (lies_in (record everywhere { words = fold (round_words (cond b (Some extent.words) None)) all_numbers hits })) includes ≡ true
+    by_test : (b : Bool) → nat_le extent.includes 1 ≡ b → (includes : List Hit) → are_few Words (Some extent) includes ≡ true → stands_out hits includes ≡ false
+        → list_all (lies_in (record everywhere { words = fold (round_words (cond b (Some extent.size) None)) all_numbers hits })) includes ≡ true
     by_test false is includes few none =
         ap (λ (words : UnitBounds). list_all (lies_in (record everywhere { words = words })) includes) (unknown_words hits all_numbers) ∙ all_pass (lies_in everywhere) all_lie includes
     by_test true is [] few none = refl
     by_test true is (other ∷ []) few none =
-        let parts = and_parts (nat_le 1 extent.includes) (is_short extent.words other && true) few in
-        let short = (and_parts (is_short extent.words other) true parts.1).0 in
+        let parts = and_parts (nat_le 1 extent.includes) (is_short Words extent.size other && true) few in
+        let short = (and_parts (is_short Words extent.size other) true parts.1).0 in
         let all = all_lie other in
         let others = (and_parts (lies_between all_numbers other.from other.to) _ all).1 in
-        λ i. (lies_round extent.words other short hits all_numbers (and_parts (lies_between all_numbers other.from other.to) _ all).0 none i && others i) && true
+        λ i. (lies_round extent.size other short hits all_numbers (and_parts (lies_between all_numbers other.from other.to) _ all).0 none i && others i) && true
     by_test true is (other ∷ another ∷ more) few none =
-        let parts = and_parts (nat_le (length (other ∷ another ∷ more)) extent.includes) (list_all (is_short extent.words) (other ∷ another ∷ more)) few in
+        let parts = and_parts (nat_le (length (other ∷ another ∷ more)) extent.includes) (list_all (is_short Words extent.size) (other ∷ another ∷ more)) few in
         let sizes = leb-true (length (other ∷ another ∷ more)) extent.includes parts.0 in
         absurd (omega (arith, sizes, leb-true extent.includes 1 is))
 
-pub lies_beside_all : (beside : Option Extent) (hits includes : List Hit) → are_few beside includes ≡ true → not (stands_out hits includes) ≡ true → list_all (lies_in (out_bounds beside hits)) includes ≡ true
+pub lies_beside_all : (beside : Option Extent) (hits includes : List Hit) → are_few Words beside includes ≡ true → not (stands_out hits includes) ≡ true → list_all (lies_in (out_bounds beside hits)) includes ≡ true
 lies_beside_all beside hits includes few bars = lies_out beside hits includes few (is_false (stands_out hits includes) bars)
   where
     is_false : (b : Bool) → not b ≡ true → b ≡ false

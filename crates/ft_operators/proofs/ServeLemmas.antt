@@ -15,7 +15,7 @@ use Rattle.all_matches.specs.Window.{windows_round, lies_in_window}
 use Rattle.all_matches.specs.Ways.{Way, two_ways, by_filter, way_includes, clean_under}
 use Rattle.ft_operators.specs.declared.course.Windows.{Windows}
 use Rattle.ft_operators.specs.declared.course.Windows.TheVariants.{Each, Telling, First}
-use Rattle.ft_operators.specs.declared.extent.Extent.{Extent}
+use Rattle.ft_operators.specs.declared.extent.UnitExtents.{UnitExtents}
 use Rattle.ft_operators.specs.Course.{asked_for}
 use Rattle.ft_operators.proofs.BoundLemmas.{few_at}
 use Rattle.ft_operators.proofs.ExtentLemmas.{few_before}
@@ -27,7 +27,7 @@ use Rattle.ft_operators.proofs.TellingLemmas.{first_decides, tell_windows, nth_w
 pub record Serves (asked : Type 0) (better way : Way) : Type 0 where
   pub same : way_includes better ≡ way_includes way
   pub clean : asked → (kept : Hit → Bool) → clean_under kept way ≡ true → clean_under kept better ≡ true
-  pub few : (extent : Option Extent) → few_before extent way ≡ true → few_before extent better ≡ true
+  pub few : (extents : UnitExtents) → few_before extents way ≡ true → few_before extents better ≡ true
 
 -- a test that a way passes if one does for which it does
 abbrev pub Respects : Type 0 → (Way → Bool) → Type 0
@@ -43,14 +43,14 @@ pub serves_left : (asked : Type 0) (better way other : Way) → Serves asked bet
 serves_left asked better way other s = record {
   same = ap (λ hits. hits ++ way_includes other) s.same;
   clean = λ a kept h. let parts = and_parts (clean_under kept way) (clean_under kept other) h in λ i. s.clean a kept parts.0 i && parts.1 i;
-  few = λ extent h. let parts = and_parts (few_before extent way) (few_before extent other) h in λ i. s.few extent parts.0 i && parts.1 i;
+  few = λ extents h. let parts = and_parts (few_before extents way) (few_before extents other) h in λ i. s.few extents parts.0 i && parts.1 i;
 }
 
 pub serves_right : (asked : Type 0) (better way other : Way) → Serves asked better way → Serves asked (two_ways other better) (two_ways other way)
 serves_right asked better way other s = record {
   same = ap (λ hits. way_includes other ++ hits) s.same;
   clean = λ a kept h. let parts = and_parts (clean_under kept other) (clean_under kept way) h in λ i. parts.0 i && s.clean a kept parts.1 i;
-  few = λ extent h. let parts = and_parts (few_before extent other) (few_before extent way) h in λ i. parts.0 i && s.few extent parts.1 i;
+  few = λ extents h. let parts = and_parts (few_before extents other) (few_before extents way) h in λ i. parts.0 i && s.few extents parts.1 i;
 }
 
 pub serves_filtered : (asked : Type 0) (better way : Way) (kind : Filter) (choice : Option Window) → Serves asked better way → Serves asked (by_filter better kind choice) (by_filter way kind choice)
@@ -58,13 +58,13 @@ serves_filtered asked better way kind choice s = record {
   same = ap (after kind) s.same;
   clean = λ a kept h.
       subst (λ hits. clean_under (λ hit. keeps kind hits choice hit && kept hit) better ≡ true) (sym s.same) (s.clean a (λ hit. keeps kind (way_includes way) choice hit && kept hit) h);
-  few = λ extent h.
-      let parts = and_parts (few_at extent kind (way_includes way)) (few_before extent way) h in
-      λ i. (ap (few_at extent kind) s.same ∙ parts.0) i && s.few extent parts.1 i;
+  few = λ extents h.
+      let parts = and_parts (few_at extents kind (way_includes way)) (few_before extents way) h in
+      λ i. (ap (few_at extents kind) s.same ∙ parts.0) i && s.few extents parts.1 i;
 }
 
 serves_any : (asked : Type 0) → (asked → ⊥) → (way : Way) (kind : Filter) (choice other : Option Window) → Serves asked (by_filter way kind choice) (by_filter way kind other)
-serves_any asked none way kind choice other = record { same = refl; clean = λ a kept h. absurd (none a); few = λ extent h. h }
+serves_any asked none way kind choice other = record { same = refl; clean = λ a kept h. absurd (none a); few = λ extents h. h }
 
 serves_window : (asked : Type 0) (way : Way) (size : ℕ) (kind : TextUnit) (last n : ℕ) → n ≤ size - suc last
     → Serves asked (by_filter way (F.Window size kind) (Some (nth_window size last 0))) (by_filter way (F.Window size kind) (Some (nth_window size last n)))
@@ -76,7 +76,7 @@ serves_window asked way size kind last n early = record {
       let parts = and_parts (lies_in_window kind (nth_window size last 0) hit) (kept hit) e in
       λ i. lies_in_later kind size last n hit early parts.0 i && parts.1 i)
       way h;
-  few = λ extent h. h;
+  few = λ extents h. h;
 }
 
 -- ---- the choices of a filter

@@ -1,4 +1,5 @@
--- Includes whose neighbours are no further apart than a distance lets them lie in as many words as the most of them have room in.
+-- Includes whose neighbours are no further apart than a distance lets them lie in as many words, sentences or paragraphs as the most of them have
+-- room in.
 use Rattle.std.proofs.Common.{◌≡◌, refl, ap, sym, ◌∙◌, ℕ, suc, ◌+◌, ◌-◌, ◌*◌, ◌^◌, ◌≤◌, List, [], ◌∷◌, Bool, true, false, ◌&&◌, cond, length, arith}
 use Rattle.std.specs.Prelude.{nat_le, nat_lt, Option, Some, None}
 use Rattle.std.specs.List.{list_all}
@@ -11,11 +12,12 @@ use Rattle.ft_base.specs.declared.hit.Hit.{Hit}
 use Rattle.ft_base.specs.declared.range.Range.{Range}
 use Rattle.ft_base.specs.declared.range.Range.TheVariants.{Exactly, AtLeast, AtMost, FromTo}
 use Rattle.ft_base.specs.declared.unit.TextUnit.{TextUnit}
-use Rattle.ft_base.specs.declared.unit.TextUnit.TheVariants.{Words, Sentences, Paragraphs}
+use Rattle.all_matches.specs.Positions.{end_in, start_in}
 use Rattle.all_matches.specs.Distance.{gap_in_range, stands_before, put_in_order, in_order, neighbours_in_range}
 use Rattle.window_distance.proofs.OrderLemmas.{all_follow_from}
 use Rattle.ft_operators.specs.declared.extent.Extent.{Extent}
-use Rattle.ft_operators.specs.Extents.{greatest_value, most_between, small, spread, words_of}
+use Rattle.ft_operators.specs.Extents.{greatest_value, size_of, small, spread}
+use Rattle.ft_operators.specs.Starts.{rises_to, starts_rise}
 
 -- ---- hits put in order
 
@@ -74,26 +76,66 @@ rising_in_order : (hits : List Hit) → rising 0 (in_order hits) ≡ true
 rising_in_order [] = refl
 rising_in_order (hit ∷ rest) = rising_put 0 hit (in_order rest) (le-leb 0 hit.from (omega arith)) (rising_in_order rest)
 
+-- where of every two hits the one that begins no later in words begins no later in the unit, so does each hit in order
+module _ (kind : TextUnit) where
+  -- each begins no earlier in the unit than the one before it
+  abbrev starting : ℕ → List Hit → Bool
+  starting low [] = true
+  starting low (hit ∷ rest) = nat_le low (start_in kind hit) && starting (start_in kind hit) rest
+
+  rises_no_later : (hit next : Hit) → nat_le hit.from next.from ≡ true → rises_to kind hit next ≡ true → nat_le (start_in kind hit) (start_in kind next) ≡ true
+  rises_no_later hit next from h = grind (arith, nat_tests)
+
+  rise_parts : (first : Hit) (rest : List Hit) → starts_rise kind (first ∷ rest) ≡ true → (list_all (rises_to kind first) rest ≡ true) × (starts_rise kind rest ≡ true)
+  rise_parts first rest h =
+      let parts = (and_parts (list_all (λ hit. rises_to kind hit first) (first ∷ rest)) (list_all (λ other. rises_to kind first other && list_all (λ hit. rises_to kind hit other) rest) rest) h).1 in (
+        all_follow_from (λ other. rises_to kind first other && list_all (λ hit. rises_to kind hit other) rest) (rises_to kind first)
+            (λ other k. (and_parts (rises_to kind first other) (list_all (λ hit. rises_to kind hit other) rest) k).0) rest parts,
+        all_follow_from (λ other. rises_to kind first other && list_all (λ hit. rises_to kind hit other) rest) (λ other. list_all (λ hit. rises_to kind hit other) rest)
+            (λ other k. (and_parts (rises_to kind first other) (list_all (λ hit. rises_to kind hit other) rest) k).1) rest parts,
+      )
+
+  starting_from : (hit : Hit) (rest : List Hit) → rising hit.from rest ≡ true → list_all (rises_to kind hit) rest ≡ true → starts_rise kind rest ≡ true → starting (start_in kind hit) rest ≡ true
+  starting_from hit [] rise to pairs = refl
+  starting_from hit (next ∷ rest) rise to pairs =
+      let rises = and_parts (nat_le hit.from next.from) (rising next.from rest) rise in
+      let first = (and_parts (rises_to kind hit next) (list_all (rises_to kind hit) rest) to).0 in
+      let more = rise_parts next rest pairs in
+      λ i. rises_no_later hit next rises.0 first i && starting_from next rest rises.1 more.0 more.1 i
+
+  starting_sorted : (hits : List Hit) → rising 0 hits ≡ true → starts_rise kind hits ≡ true → starting 0 hits ≡ true
+  starting_sorted [] rise pairs = refl
+  starting_sorted (first ∷ rest) rise pairs =
+      let more = rise_parts first rest pairs in
+      λ i. le-leb 0 (start_in kind first) (omega arith) i && starting_from first rest (and_parts (nat_le 0 first.from) (rising first.from rest) rise).1 more.0 more.1 i
+
+  starting_in_order : (hits : List Hit) → starts_rise kind hits ≡ true → starting 0 (in_order hits) ≡ true
+  starting_in_order hits h =
+      starting_sorted (in_order hits) (rising_in_order hits)
+      (all_in_order (λ other. list_all (λ hit. rises_to kind hit other) (in_order hits)) hits
+      ∙ all_follow_from (λ other. list_all (λ hit. rises_to kind hit other) hits) (λ other. list_all (λ hit. rises_to kind hit other) (in_order hits))
+      (λ other k. all_in_order (λ hit. rises_to kind hit other) hits ∙ k) hits h)
+
 -- ---- a list of hits in order
 
--- whether a hit has no more than so many words, and whether it lies from a word on before another
-abbrev pub is_short : ℕ → Hit → Bool
-is_short words hit = nat_lt hit.to (hit.from + words)
+-- whether a hit is no larger than that, and whether it lies from one number on before another
+abbrev pub is_short : TextUnit → ℕ → Hit → Bool
+is_short kind size hit = nat_lt (end_in kind hit) (start_in kind hit + size)
 
-abbrev pub lies_from : ℕ → ℕ → Hit → Bool
-lies_from low end hit = nat_le low hit.from && nat_lt hit.to end
+abbrev pub lies_from : TextUnit → ℕ → ℕ → Hit → Bool
+lies_from kind low end hit = nat_le low (start_in kind hit) && nat_lt (end_in kind hit) end
 
-module _ (words gap : ℕ) where
-  one_more : (n : ℕ) → words_of (suc (suc n)) words gap ≡ words_of (suc n) words gap + words + gap
+module _ (kind : TextUnit) (size gap : ℕ) where
+  one_more : (n : ℕ) → size_of (suc (suc n)) size gap ≡ size_of (suc n) size gap + size + gap
   one_more n =
       let pred : suc (suc n) - 1 ≡ suc n = omega arith in
       let one_pred : suc n - 1 ≡ n = omega arith in
       let more : (suc (suc n) - 1) * gap ≡ n * gap + gap = ap (λ k. k * gap) pred ∙ suc-mul n gap in
       let less : (suc n - 1) * gap ≡ n * gap = ap (λ k. k * gap) one_pred in
-      omega (arith, suc-mul (suc n) words, suc-mul n words, more, less)
+      omega (arith, suc-mul (suc n) size, suc-mul n size, more, less)
 
-  words_grow : (n most : ℕ) → n ≤ most → words_of n words gap ≤ words_of most words gap
-  words_grow n most few = omega (arith, mul-le n words most words few (omega arith), mul-le (n - 1) gap (most - 1) gap (omega (arith, few)) (omega arith))
+  size_grow : (n most : ℕ) → n ≤ most → size_of n size gap ≤ size_of most size gap
+  size_grow n most few = omega (arith, mul-le n size most size few (omega arith), mul-le (n - 1) gap (most - 1) gap (omega (arith, few)) (omega arith))
 
   limited : (range : Range) (end start : ℕ) → greatest_value range ≡ Some gap → gap_in_range range end start ≡ true → start ≤ suc (end + gap)
   limited (Exactly n) end start is h = let same : n ≡ gap = ap value is in grind (arith, nat_tests)
@@ -113,60 +155,60 @@ module _ (words gap : ℕ) where
       value None = 0
       value (Some k) = k
 
-  further : (a b hit : Hit) (reach more : ℕ) → a.from ≤ b.from → is_short words a ≡ true → b.from ≤ suc (a.to + gap) → more ≡ reach + words + gap
-      → lies_from b.from (b.from + reach) hit ≡ true → lies_from a.from (a.from + more) hit ≡ true
+  further : (a b hit : Hit) (reach more : ℕ) → (start_in kind a) ≤ (start_in kind b) → is_short kind size a ≡ true → (start_in kind b) ≤ suc ((end_in kind a) + gap) → more ≡ reach + size + gap
+      → lies_from kind (start_in kind b) ((start_in kind b) + reach) hit ≡ true → lies_from kind (start_in kind a) ((start_in kind a) + more) hit ≡ true
   further a b hit reach more rise short near is h = grind (arith, nat_tests)
 
-  here : (hit : Hit) (reach : ℕ) → words ≤ reach → is_short words hit ≡ true → lies_from hit.from (hit.from + reach) hit ≡ true
+  here : (hit : Hit) (reach : ℕ) → size ≤ reach → is_short kind size hit ≡ true → lies_from kind (start_in kind hit) ((start_in kind hit) + reach) hit ≡ true
   here hit reach room short = grind (arith, nat_tests)
 
   module _ (range : Range) (is : greatest_value range ≡ Some gap) where
-    chained : (first : Hit) (rest : List Hit) → rising first.from rest ≡ true → neighbours_in_range range Words (first ∷ rest) ≡ true → list_all (is_short words) (first ∷ rest) ≡ true
-        → list_all (lies_from first.from (first.from + words_of (suc (length rest)) words gap)) (first ∷ rest) ≡ true
-    chained first [] rise near short = λ i. here first (words_of 1 words gap) (omega arith) (and_parts (is_short words first) true short).0 i && true
+    chained : (first : Hit) (rest : List Hit) → starting kind (start_in kind first) rest ≡ true → neighbours_in_range range kind (first ∷ rest) ≡ true → list_all (is_short kind size) (first ∷ rest) ≡ true
+        → list_all (lies_from kind (start_in kind first) ((start_in kind first) + size_of (suc (length rest)) size gap)) (first ∷ rest) ≡ true
+    chained first [] rise near short = λ i. here first (size_of 1 size gap) (omega arith) (and_parts (is_short kind size first) true short).0 i && true
     chained first (next ∷ rest) rise near short =
-        let rises = and_parts (nat_le first.from next.from) (rising next.from rest) rise in
-        let nears = and_parts (gap_in_range range first.to next.from) (neighbours_in_range range Words (next ∷ rest)) near in
-        let shorts = and_parts (is_short words first) (list_all (is_short words) (next ∷ rest)) short in
+        let rises = and_parts (nat_le (start_in kind first) (start_in kind next)) (starting kind (start_in kind next) rest) rise in
+        let nears = and_parts (gap_in_range range (end_in kind first) (start_in kind next)) (neighbours_in_range range kind (next ∷ rest)) near in
+        let shorts = and_parts (is_short kind size first) (list_all (is_short kind size) (next ∷ rest)) short in
         let more = one_more (length rest) in
-        λ i. here first (words_of (suc (suc (length rest))) words gap) (omega (arith, more)) shorts.0 i
-        && all_follow_from (lies_from next.from (next.from + words_of (suc (length rest)) words gap)) (lies_from first.from (first.from + words_of (suc (suc (length rest))) words gap))
-        (λ hit h. further first next hit _ _ (leb-true first.from next.from rises.0) shorts.0 (limited range first.to next.from is nears.0) more h) (next ∷ rest)
+        λ i. here first (size_of (suc (suc (length rest))) size gap) (omega (arith, more)) shorts.0 i
+        && all_follow_from (lies_from kind (start_in kind next) ((start_in kind next) + size_of (suc (length rest)) size gap)) (lies_from kind (start_in kind first) ((start_in kind first) + size_of (suc (suc (length rest))) size gap))
+        (λ hit h. further first next hit _ _ (leb-true (start_in kind first) (start_in kind next) rises.0) shorts.0 (limited range (end_in kind first) (start_in kind next) is nears.0) more h) (next ∷ rest)
         (chained next rest rises.1 nears.1 shorts.1) i
 
-    wider : (low end more : ℕ) → end ≤ more → (hit : Hit) → lies_from low end hit ≡ true → lies_from low more hit ≡ true
+    wider : (low end more : ℕ) → end ≤ more → (hit : Hit) → lies_from kind low end hit ≡ true → lies_from kind low more hit ≡ true
     wider low end more less hit h = grind (arith, nat_tests)
 
-    -- from the first word of the first of some hits, where there is one
+    -- from where the first of some hits begins, if there is one
     abbrev pub first_from : List Hit → ℕ
     first_from [] = 0
-    first_from (first ∷ rest) = first.from
+    first_from (first ∷ rest) = start_in kind first
 
-    spread_out : (most : ℕ) (hits : List Hit) → rising 0 hits ≡ true → neighbours_in_range range Words hits ≡ true → list_all (is_short words) hits ≡ true → length hits ≤ most
-        → list_all (lies_from (first_from hits) (first_from hits + words_of most words gap)) hits ≡ true
+    spread_out : (most : ℕ) (hits : List Hit) → starting kind 0 hits ≡ true → neighbours_in_range range kind hits ≡ true → list_all (is_short kind size) hits ≡ true → length hits ≤ most
+        → list_all (lies_from kind (first_from hits) (first_from hits + size_of most size gap)) hits ≡ true
     spread_out most [] rise near short few = refl
     spread_out most (first ∷ rest) rise near short few =
-        let less = words_grow (suc (length rest)) most few in
-        all_follow_from (lies_from first.from (first.from + words_of (suc (length rest)) words gap)) (lies_from first.from (first.from + words_of most words gap))
-        (wider first.from (first.from + words_of (suc (length rest)) words gap) (first.from + words_of most words gap) (omega (arith, less)))
-        (first ∷ rest) (chained first rest (and_parts (nat_le 0 first.from) (rising first.from rest) rise).1 near short)
+        let less = size_grow (suc (length rest)) most few in
+        all_follow_from (lies_from kind (start_in kind first) ((start_in kind first) + size_of (suc (length rest)) size gap)) (lies_from kind (start_in kind first) ((start_in kind first) + size_of most size gap))
+        (wider (start_in kind first) ((start_in kind first) + size_of (suc (length rest)) size gap) ((start_in kind first) + size_of most size gap) (omega (arith, less)))
+        (first ∷ rest) (chained first rest (and_parts (nat_le 0 (start_in kind first)) (starting kind (start_in kind first) rest) rise).1 near short)
 
-    -- the first word of all
+    -- where the first of all begins
     abbrev pub spread_from : List Hit → ℕ
     spread_from hits = first_from (in_order hits)
 
-    pub all_spread : (most : ℕ) (hits : List Hit) → neighbours_in_range range Words (in_order hits) ≡ true → list_all (is_short words) hits ≡ true → length hits ≤ most
-        → list_all (lies_from (spread_from hits) (spread_from hits + words_of most words gap)) hits ≡ true
-    all_spread most hits near short few =
-        sym (all_in_order (lies_from (spread_from hits) (spread_from hits + words_of most words gap)) hits)
-        ∙ spread_out most (in_order hits) (rising_in_order hits) near (all_in_order (is_short words) hits ∙ short) (let same = length_in_order hits in omega (arith, same, few))
+    pub all_spread : (most : ℕ) (hits : List Hit) → neighbours_in_range range kind (in_order hits) ≡ true → list_all (is_short kind size) hits ≡ true → length hits ≤ most
+        → starts_rise kind hits ≡ true → list_all (lies_from kind (spread_from hits) (spread_from hits + size_of most size gap)) hits ≡ true
+    all_spread most hits near short few rise =
+        sym (all_in_order (lies_from kind (spread_from hits) (spread_from hits + size_of most size gap)) hits)
+        ∙ spread_out most (in_order hits) (starting_in_order kind hits rise) near (all_in_order (is_short kind size) hits ∙ short) (let same = length_in_order hits in omega (arith, same, few))
 
 -- ---- an extent
 
--- whether includes are no more, and have no more words each, than an extent says
-abbrev pub are_few : Option Extent → List Hit → Bool
-are_few None hits = true
-are_few (Some extent) hits = nat_le (length hits) extent.includes && list_all (is_short extent.words) hits
+-- whether includes are no more, and no larger each, than an extent says
+abbrev pub are_few : TextUnit → Option Extent → List Hit → Bool
+are_few kind None hits = true
+are_few kind (Some extent) hits = nat_le (length hits) extent.includes && list_all (is_short kind extent.size) hits
 
 -- a number that is known is the number
 pub small_is : (number size : ℕ) → small number ≡ Some size → number ≡ size
@@ -180,33 +222,32 @@ small_is number size is = by_test (nat_lt number (2 ^ 32)) is
     by_test true e = ap value e
     by_test false e = cc
 
--- the same before a distance, where its words between neighbours are limited
-abbrev pub few_where : Option ℕ → Option Extent → List Hit → Bool
-few_where None extent hits = true
-few_where (Some gap) extent hits = are_few extent hits
+-- whether they begin in order, where an extent is told
+abbrev pub rise_where : TextUnit → Option Extent → List Hit → Bool
+rise_where kind None hits = true
+rise_where kind (Some extent) hits = starts_rise kind hits
 
--- includes that lie in so many words
-pub record SpreadIn (words : ℕ) (hits : List Hit) : Type 0 where
+-- both before a distance in the unit, where it is limited
+abbrev pub few_where : Option ℕ → TextUnit → Option Extent → List Hit → Bool
+few_where None kind extent hits = true
+few_where (Some gap) kind extent hits = are_few kind extent hits && rise_where kind extent hits
+
+-- includes that lie in a window of that size
+pub record SpreadIn (kind : TextUnit) (size : ℕ) (hits : List Hit) : Type 0 where
   pub low : ℕ
-  pub all : list_all (lies_from low (low + words)) hits ≡ true
+  pub all : list_all (lies_from kind low (low + size)) hits ≡ true
 
-spread_words : (extent : Option Extent) (range : Range) (value : Option ℕ) (words : ℕ) (hits : List Hit) → greatest_value range ≡ value → spread extent value ≡ Some words
-    → neighbours_in_range range Words (in_order hits) ≡ true → few_where value extent hits ≡ true → SpreadIn words hits
-spread_words None range value words hits same is near few = cc
-spread_words (Some extent) range None words hits same is near few = cc
-spread_words (Some extent) range (Some gap) words hits same is near few =
-    let parts = and_parts (nat_le (length hits) extent.includes) (list_all (is_short extent.words) hits) few in
-    let number = small_is (words_of extent.includes extent.words gap) words is in
-    let low = spread_from extent.words gap range same hits in record {
+-- so few includes that pass a distance lie in as much as they spread over, where that is known
+pub spread_in : (extent : Option Extent) (range : Range) (kind : TextUnit) (value : Option ℕ) (size : ℕ) (hits : List Hit) → greatest_value range ≡ value → spread extent value ≡ Some size
+    → neighbours_in_range range kind (in_order hits) ≡ true → few_where value kind extent hits ≡ true → SpreadIn kind size hits
+spread_in None range kind value size hits same is near few = cc
+spread_in (Some extent) range kind None size hits same is near few = cc
+spread_in (Some extent) range kind (Some gap) size hits same is near few =
+    let both = and_parts (nat_le (length hits) extent.includes && list_all (is_short kind extent.size) hits) (starts_rise kind hits) few in
+    let parts = and_parts (nat_le (length hits) extent.includes) (list_all (is_short kind extent.size) hits) both.0 in
+    let number = small_is (size_of extent.includes extent.size gap) size is in
+    let low = spread_from kind extent.size gap range same hits in record {
       low = low;
-      all = ap (λ n. list_all (lies_from low (low + n)) hits) (sym number) ∙ all_spread extent.words gap range same extent.includes hits near parts.1 (leb-true (length hits) extent.includes parts.0);
+      all = ap (λ n. list_all (lies_from kind low (low + n)) hits) (sym number)
+          ∙ all_spread kind extent.size gap range same extent.includes hits near parts.1 (leb-true (length hits) extent.includes parts.0) both.1;
     }
-
--- so few includes that pass a distance lie in as many words as they spread over, where that is known
-pub spread_in : (extent : Option Extent) (range : Range) (kind : TextUnit) (words : ℕ) (hits : List Hit) → spread extent (most_between range kind) ≡ Some words
-    → neighbours_in_range range kind (in_order hits) ≡ true → few_where (most_between range kind) extent hits ≡ true → SpreadIn words hits
-spread_in extent range Words words hits is near few = spread_words extent range (greatest_value range) words hits refl is near few
-spread_in None range Sentences words hits is near few = cc
-spread_in (Some extent) range Sentences words hits is near few = cc
-spread_in None range Paragraphs words hits is near few = cc
-spread_in (Some extent) range Paragraphs words hits is near few = cc

@@ -6,13 +6,13 @@ use Rattle.ft_base.specs.declared.filter.Filter.TheVariants as F
 use Rattle.ft_base.specs.declared.hit.Hit.{Hit}
 use Rattle.ft_base.specs.declared.unit.TextUnit.{TextUnit}
 use Rattle.ft_base.specs.declared.unit.TextUnit.TheVariants.{Words, Sentences, Paragraphs}
-use Rattle.ft_operators.specs.Extents.{most_between, spread}
+use Rattle.ft_operators.specs.Extents.{extent_in, greatest_value, spread}
 use Rattle.ft_operators.specs.declared.bounds.Bounds.{Bounds}
 use Rattle.ft_operators.specs.declared.bounds.UnitBounds.{UnitBounds}
 use Rattle.ft_operators.specs.declared.bounds.OrderBound.{OrderBound}
 use Rattle.ft_operators.specs.declared.course.Windows.{Windows}
 use Rattle.ft_operators.specs.declared.course.Windows.TheVariants.{Each, Telling, First}
-use Rattle.ft_operators.specs.declared.extent.Extent.{Extent}
+use Rattle.ft_operators.specs.declared.extent.UnitExtents.{UnitExtents}
 use Rattle.ft_operators.specs.declared.reach.Reach.{Reach}
 
 -- ---- hits in bounds
@@ -111,25 +111,28 @@ abbrev pub smaller : Option ℕ → ℕ → ℕ
 smaller None size = size
 smaller (Some other) size = min other size
 
--- a window of the size in one unit alone
-abbrev pub window_reach : ℕ → TextUnit → Reach
-window_reach size Words = record no_reach { words = Some size }
-window_reach size Sentences = record no_reach { sentences = Some size }
-window_reach size Paragraphs = record no_reach { paragraphs = Some size }
+-- a window of the size, if there is one, in one unit alone
+abbrev pub unit_reach : TextUnit → Option ℕ → Reach
+unit_reach Words size = record no_reach { words = size }
+unit_reach Sentences size = record no_reach { sentences = size }
+unit_reach Paragraphs size = record no_reach { paragraphs = size }
 
--- what a filter, and those round it, say of every two includes before it, which are no more and no longer than the extent says.
+abbrev pub window_reach : ℕ → TextUnit → Reach
+window_reach size kind = unit_reach kind (Some size)
+
+-- what a filter, and those round it, say of every two includes before it, which are no more and no larger than the extents say.
 -- Those round a filter that joins see its joined hit
-abbrev pub filter_reach : Option Extent → Filter → Reach → Reach
-filter_reach extent F.Ordered reach = record reach { ordered = true }
-filter_reach extent (F.Window size kind) reach = window_reach size kind
-filter_reach extent (F.Distance range kind) reach = record no_reach { words = spread extent (most_between range kind) }
-filter_reach extent F.SameSentence reach = record reach { sentences = Some (smaller reach.sentences 1) }
-filter_reach extent F.SameParagraph reach = record reach { paragraphs = Some (smaller reach.paragraphs 1) }
-filter_reach extent F.DifferentSentence reach = reach
-filter_reach extent F.DifferentParagraph reach = reach
-filter_reach extent F.AtStart reach = reach
-filter_reach extent F.AtEnd reach = reach
-filter_reach extent F.EntireContent reach = reach
+abbrev pub filter_reach : UnitExtents → Filter → Reach → Reach
+filter_reach extents F.Ordered reach = record reach { ordered = true }
+filter_reach extents (F.Window size kind) reach = window_reach size kind
+filter_reach extents (F.Distance range kind) reach = unit_reach kind (spread (extent_in kind extents) (greatest_value range))
+filter_reach extents F.SameSentence reach = record reach { sentences = Some (smaller reach.sentences 1) }
+filter_reach extents F.SameParagraph reach = record reach { paragraphs = Some (smaller reach.paragraphs 1) }
+filter_reach extents F.DifferentSentence reach = reach
+filter_reach extents F.DifferentParagraph reach = reach
+filter_reach extents F.AtStart reach = reach
+filter_reach extents F.AtEnd reach = reach
+filter_reach extents F.EntireContent reach = reach
 
 -- the bounds of the includes before a filter: where the joined hit lies in them, all do, but for the order, which is that of the
 -- joined hit's own phrase
@@ -149,10 +152,10 @@ filter_bounds F.AtEnd bounds = bounds
 filter_bounds F.EntireContent bounds = bounds
 
 -- where each window is gone through no way is left out
-abbrev pub reach_inside : Windows → Option Extent → Filter → Reach → Reach
-reach_inside Each extent kind reach = reach
-reach_inside Telling extent kind reach = filter_reach extent kind reach
-reach_inside First extent kind reach = filter_reach extent kind reach
+abbrev pub reach_inside : Windows → UnitExtents → Filter → Reach → Reach
+reach_inside Each extents kind reach = reach
+reach_inside Telling extents kind reach = filter_reach extents kind reach
+reach_inside First extents kind reach = filter_reach extents kind reach
 
 abbrev pub bounds_inside : Windows → Filter → Bounds → Bounds
 bounds_inside Each kind bounds = bounds

@@ -12,12 +12,13 @@ use Rattle.all_matches.specs.Ways.{Operator, phrase, either, together, apart, ne
 use Rattle.all_matches.specs.Ways.{Way, one_hit, two_ways, turned_about, by_filter, way_includes}
 use Rattle.all_matches.specs.MildNot.{stands_out}
 use Rattle.ft_operators.specs.Bounds.{all_numbers, lies_in, everywhere, no_reach, numbers_round, round_hits, reach_inside, bounds_inside}
-use Rattle.ft_operators.specs.Extents.{lone_words}
+use Rattle.ft_operators.specs.Extents.{lone_size, untold}
 use Rattle.ft_operators.specs.declared.bounds.Bounds.{Bounds}
 use Rattle.ft_operators.specs.declared.bounds.UnitBounds.{UnitBounds}
 use Rattle.ft_operators.specs.declared.course.Course.{Course}
 use Rattle.ft_operators.specs.declared.course.Windows.{Windows}
 use Rattle.ft_operators.specs.declared.extent.Extent.{Extent}
+use Rattle.ft_operators.specs.declared.extent.UnitExtents.{UnitExtents}
 use Rattle.ft_operators.specs.declared.course.Windows.TheVariants.{Each, Telling, First}
 
 -- how many numbers stand after this one, up to 0
@@ -49,8 +50,8 @@ course_inside kind course = record {
   item = course.item;
   windows = course.windows;
   bounds = bounds_inside course.windows kind course.bounds;
-  reach = reach_inside course.windows course.extent kind course.reach;
-  extent = course.extent;
+  reach = reach_inside course.windows course.extents kind course.reach;
+  extents = course.extents;
   beside = course.beside;
 }
 
@@ -61,13 +62,13 @@ course_beside course hits = record {
   windows = course.windows;
   bounds = round_hits course.reach course.bounds hits;
   reach = course.reach;
-  extent = course.extent;
+  extents = course.extents;
   beside = course.beside;
 }
 
 -- the course without bounds
 abbrev pub without_bounds : Course → Course
-without_bounds course = record { item = course.item; windows = course.windows; bounds = everywhere; reach = no_reach; extent = course.extent; beside = course.beside }
+without_bounds course = record { item = course.item; windows = course.windows; bounds = everywhere; reach = no_reach; extents = course.extents; beside = course.beside }
 
 -- the words that an include of so many words lies in which covers each word of a hit
 abbrev pub round_words : Option ℕ → UnitBounds → Hit → UnitBounds
@@ -79,9 +80,9 @@ abbrev pub course_out : Course → List Hit → Course
 course_out course hits = record {
   item = course.item;
   windows = course.windows;
-  bounds = record everywhere { words = fold (round_words (lone_words course.beside)) all_numbers hits };
+  bounds = record everywhere { words = fold (round_words (lone_size course.beside)) all_numbers hits };
   reach = no_reach;
-  extent = course.extent;
+  extents = course.extents;
   beside = course.beside;
 }
 
@@ -111,15 +112,15 @@ stands_on course right a = passes_out course right (way_includes a)
 
 -- the courses of an item
 abbrev pub every : Span → Course
-every item = record { item = item; windows = Each; bounds = everywhere; reach = no_reach; extent = None; beside = None }
+every item = record { item = item; windows = Each; bounds = everywhere; reach = no_reach; extents = untold; beside = None }
 
 -- where the ways have so much before the distances inside, and those of right sides of mild nots so much
-abbrev pub tellings : Span → Option Extent → Option Extent → Course
-tellings item extent beside = record { item = item; windows = Telling; bounds = everywhere; reach = no_reach; extent = extent; beside = beside }
+abbrev pub tellings : Span → UnitExtents → Option Extent → Course
+tellings item extents beside = record { item = item; windows = Telling; bounds = everywhere; reach = no_reach; extents = extents; beside = beside }
 
 -- that of a negated selection, whose includes lie in bounds
-abbrev pub firsts : Span → Bounds → Option Extent → Option Extent → Course
-firsts item bounds extent beside = record { item = item; windows = First; bounds = bounds; reach = no_reach; extent = extent; beside = beside }
+abbrev pub firsts : Span → Bounds → UnitExtents → Option Extent → Course
+firsts item bounds extents beside = record { item = item; windows = First; bounds = bounds; reach = no_reach; extents = extents; beside = beside }
 
 -- the number, among all windows of a size round a hit that ends there, of that one among those that are asked for
 abbrev pub number_among : Windows → ℕ → ℕ → ℕ → ℕ

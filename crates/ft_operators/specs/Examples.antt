@@ -5,7 +5,7 @@ use Rattle.ft_base.specs.declared.span.Span.{Span}
 use Rattle.ft_base.specs.declared.filter.Filter.{Filter}
 use Rattle.ft_base.specs.declared.filter.Filter.TheVariants as F
 use Rattle.ft_base.specs.declared.range.Range.TheVariants.{AtMost}
-use Rattle.ft_base.specs.declared.unit.TextUnit.TheVariants.{Words}
+use Rattle.ft_base.specs.declared.unit.TextUnit.TheVariants.{Words, Sentences}
 use Rattle.all_matches.specs.declared.window.Window.{Window}
 use Rattle.all_matches.specs.Chain.{Link}
 use Rattle.all_matches.specs.Hits.{match_of_hit}
@@ -18,6 +18,8 @@ use Rattle.ft_operators.specs.declared.course.Course.{Course}
 use Rattle.ft_operators.specs.declared.extent.Extent.{Extent}
 use Rattle.ft_operators.specs.Bounds.{everywhere}
 use Rattle.ft_operators.specs.Course.{course_inside, tellings, ways_on}
+use Rattle.ft_operators.specs.Extents.{untold}
+use Rattle.ft_operators.specs.declared.extent.UnitExtents.{UnitExtents}
 use Rattle.ft_operators.specs.Standing.{phrase_aims}
 use Rattle.ft_operators.specs.Walk.{Walk, before_first, walk_at}
 
@@ -93,7 +95,7 @@ two_hits number first second = phrase (hit_of number first ∷ hit_of number sec
 
 -- the course inside a filter
 abbrev pub inside : Filter → Course
-inside kind = course_inside kind (tellings (span 1 9) None None)
+inside kind = course_inside kind (tellings (span 1 9) untold None)
 
 -- the ways of an And of two hits each on that course
 abbrev pub pairs_on : Course → List Way
@@ -103,9 +105,16 @@ pairs_on course = ways_on course (together (two_hits 1 1 5) (two_hits 2 2 4))
 abbrev pub pair : ℕ → ℕ → Way
 pair first second = two_ways (one_hit (hit_of 1 first)) (one_hit (hit_of 2 second))
 
--- so many includes of so many words
+-- so many includes of a size
 abbrev pub extent : ℕ → ℕ → Option Extent
-extent includes words = Some record { includes = includes; words = words }
+extent includes size = Some record { includes = includes; size = size }
+
+-- told of words alone, and of sentences alone
+abbrev pub in_words : Option Extent → UnitExtents
+in_words extent = record untold { words = extent }
+
+abbrev pub in_sentences : Option Extent → UnitExtents
+in_sentences extent = record untold { sentences = extent }
 
 -- at most so many words between neighbours
 abbrev pub at_most : ℕ → Filter
@@ -113,11 +122,18 @@ at_most words = F.Distance (AtMost words) Words
 
 -- the course inside a filter, before which ways have two includes of one word
 abbrev pub inside_few : Filter → Course
-inside_few kind = course_inside kind (tellings (span 1 9) (extent 2 1) None)
+inside_few kind = course_inside kind (tellings (span 1 9) (in_words (extent 2 1)) None)
+
+-- the hit at a word of that sentence; the course inside a distance of at most one sentence, before which ways have two includes of one sentence
+abbrev pub in_sentence : ℕ → ℕ → Hit
+in_sentence number sentence = record (at number) { sent_from = sentence; sent_to = sentence }
+
+abbrev pub inside_near : Course
+inside_near = course_inside (F.Distance (AtMost 1) Sentences) (tellings (span 1 9) (in_sentences (extent 2 1)) None)
 
 -- the course where the ways of right sides of mild nots have one include of so many words
 abbrev pub beside : ℕ → Course
-beside words = tellings (span 1 9) None (extent 1 words)
+beside words = tellings (span 1 9) untold (extent 1 words)
 
 -- a phrase that has a hit of two words and one of one; those of one word each
 abbrev pub two_words : Operator

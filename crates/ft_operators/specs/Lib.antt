@@ -1,4 +1,5 @@
 pub mod Extents
+pub mod Starts
 pub mod Ordered
 pub mod Bounds
 pub mod KeptBounds

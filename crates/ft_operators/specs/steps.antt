@@ -7,3 +7,4 @@ pub mod Cleaning
 pub mod Comparing
 pub mod Measuring
 pub mod Ordering
+pub mod Rising

@@ -165,7 +165,7 @@ fn negation_is_clean<P: PhraseHits, L: Ledger>(
     ensures { Asked course (negation_standing P.state course negation.old) (negation_standing P.state course negation.new) chain.old chain.new
         (vec_capacity held.old) (vec_capacity held.new) steps.old steps.new result }
 {
-    let firsts = firsts(course.item, chain.bounds(), course.extent, course.beside);
+    let firsts = firsts(course.item, chain.bounds(), course.extents, course.beside);
     !some_is_kept(&mut negation.operand, firsts, chain, held, steps)
 }
 

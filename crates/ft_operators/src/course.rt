@@ -5,7 +5,7 @@ ghost use Rattle.ft_operators.specs.Bounds.{everywhere, no_reach};
 ghost use Rattle.ft_operators.specs.Course.{course_inside, every, firsts, tellings};
 
 use crate::bounds::Bounds;
-use crate::extent::Extent;
+use crate::extent::{Extent, UnitExtents, untold};
 use crate::narrowing::{bounds_inside, reach_inside};
 use crate::reach::{Reach, no_reach};
 use ft_base::{Filter, Span};
@@ -18,8 +18,8 @@ pub(crate) struct Course {
     pub(crate) windows: Windows,
     pub(crate) bounds: Bounds,
     pub(crate) reach: Reach,
-    /// What the ways have before the distances inside, where it is known.
-    pub(crate) extent: Option<Extent>,
+    /// What the ways have before the distances inside in each unit, where it is known.
+    pub(crate) extents: UnitExtents,
     /// What the ways of right sides of mild nots have, where it is known.
     pub(crate) beside: Option<Extent>,
 }
@@ -40,15 +40,15 @@ pub(crate) enum Windows {
 pub(crate) fn every(item: Span) -> Course
     ensures { result ≡ every item }
 {
-    unbounded(item, Windows::Each, None, None)
+    unbounded(item, Windows::Each, untold(), None)
 }
 
 /// The course of a whole node, through the windows that tell whether a way is clean, where the ways have so much before the
 /// distances inside, and those of right sides of mild nots so much.
-pub(crate) fn tellings(item: Span, extent: Option<Extent>, beside: Option<Extent>) -> Course
-    ensures { result ≡ tellings item extent beside }
+pub(crate) fn tellings(item: Span, extents: UnitExtents, beside: Option<Extent>) -> Course
+    ensures { result ≡ tellings item extents beside }
 {
-    unbounded(item, Windows::Telling, extent, beside)
+    unbounded(item, Windows::Telling, extents, beside)
 }
 
 /// The course of the operand of a negated selection, through the first window of each filter, whose includes lie in the
@@ -56,30 +56,30 @@ pub(crate) fn tellings(item: Span, extent: Option<Extent>, beside: Option<Extent
 pub(crate) fn firsts(
     item: Span,
     bounds: Bounds,
-    extent: Option<Extent>,
+    extents: UnitExtents,
     beside: Option<Extent>,
 ) -> Course
-    ensures { result ≡ firsts item bounds extent beside }
+    ensures { result ≡ firsts item bounds extents beside }
 {
     Course {
         item,
         windows: Windows::First,
         bounds,
         reach: no_reach(),
-        extent,
+        extents,
         beside,
     }
 }
 
-fn unbounded(item: Span, windows: Windows, extent: Option<Extent>, beside: Option<Extent>) -> Course
-    ensures { result ≡ record { item = item; windows = windows; bounds = everywhere; reach = no_reach; extent = extent; beside = beside } }
+fn unbounded(item: Span, windows: Windows, extents: UnitExtents, beside: Option<Extent>) -> Course
+    ensures { result ≡ record { item = item; windows = windows; bounds = everywhere; reach = no_reach; extents = extents; beside = beside } }
 {
     Course {
         item,
         windows,
         bounds: Bounds::everywhere(),
         reach: no_reach(),
-        extent,
+        extents,
         beside,
     }
 }
@@ -92,8 +92,8 @@ pub(crate) fn course_inside(course: Course, kind: &Filter) -> Course
         item: course.item,
         windows: course.windows,
         bounds: bounds_inside(course.windows, kind, course.bounds),
-        reach: reach_inside(course.windows, course.extent, kind, course.reach),
-        extent: course.extent,
+        reach: reach_inside(course.windows, course.extents, kind, course.reach),
+        extents: course.extents,
         beside: course.beside,
     }
 }

@@ -10,13 +10,14 @@ ghost use Rattle.all_matches.specs.Ways.{apart, either, negated, one_hit, phrase
 ghost use Rattle.ft_operators.specs.Chains.{all_kept, clean_now, first_includes, links_from, outer_window, passes_now, way_window, window_now};
 ghost use Rattle.ft_operators.specs.Bounds.{everywhere, filter_bounds, filter_reach, lies_in, no_reach, order_reach, reach_inside, round_hit, round_hits, window_reach};
 ghost use Rattle.ft_operators.specs.Examples.{a, a_and_b, at, is_after, link, moved, not_a, ordered, put, round_from, span, two_from, unmoved, within};
-ghost use Rattle.ft_operators.specs.Examples.{at_most, beside, between, extent, from_to, hit_of, inside, inside_few, one_word, pair, pairs_on, two_words, words_between};
-ghost use Rattle.ft_operators.specs.Extents.{extent_before, extent_behind, extent_beside, extent_inside, extent_of, extent_of_both, extent_of_either, lone_words, longest};
-ghost use Rattle.ft_operators.specs.Extents.{most_between, no_include, one_include, small, spread, words_of};
+ghost use Rattle.ft_operators.specs.Examples.{at_most, beside, between, extent, from_to, hit_of, in_sentence, in_sentences, in_words, inside, inside_few, inside_near, one_word, pair, pairs_on, two_words, words_between};
+ghost use Rattle.ft_operators.specs.Extents.{extent_before, extent_behind, extent_beside, extent_inside, extent_of, extent_of_both, extent_of_either, greatest_value, in_same, lone_size, longest};
+ghost use Rattle.ft_operators.specs.Extents.{no_include, one_include, size_of, small, spread, untold};
 ghost use Rattle.ft_operators.specs.Course.{admitted, asked_for, course_inside, course_out, every, number_among, telling, ways_on};
 ghost use Rattle.ft_operators.specs.KeptBounds.{chain_bounds, kept_bounds};
 ghost use Rattle.ft_operators.specs.declared.course.Windows.TheVariants.{Each, First, Telling};
 ghost use Rattle.ft_operators.specs.Ordered.{comes_in_order};
+ghost use Rattle.ft_operators.specs.Starts.{hits_of, rises_to, starts_rise};
 ghost use Rattle.ft_operators.specs.Walk.{at_next_way, own_span};
 
 /// The first word of a span is its word 1.
@@ -129,19 +130,21 @@ pub fn bounds_beside_hits()
 
 /// A window says what it needs, whatever stands round it; a scope and an order say it besides what stands round them.
 pub fn filters_on_every_two()
-    ensures window { filter_reach None (F.Window 4 Words) order_reach ≡ window_reach 4 Words }
-    ensures distance { filter_reach (extent 3 1) (at_most 2) order_reach ≡ window_reach 7 Words }
-    ensures distance_without_an_extent { filter_reach None (at_most 2) order_reach ≡ no_reach }
-    ensures distance_in_sentences { filter_reach (extent 3 1) (F.Distance (AtMost 2) Sentences) order_reach ≡ no_reach }
-    ensures scope { filter_reach None F.SameSentence (window_reach 4 Words) ≡ record (window_reach 4 Words) { sentences = Some 1 } }
-    ensures scope_in_a_window { filter_reach None F.SameParagraph (window_reach 5 Paragraphs) ≡ window_reach 1 Paragraphs }
-    ensures order { filter_reach None F.Ordered (window_reach 4 Words) ≡ record (window_reach 4 Words) { ordered = true } }
-    ensures start { filter_reach None F.AtStart (window_reach 4 Words) ≡ window_reach 4 Words }
+    ensures window { filter_reach untold (F.Window 4 Words) order_reach ≡ window_reach 4 Words }
+    ensures distance { filter_reach (in_words (extent 3 1)) (at_most 2) order_reach ≡ window_reach 7 Words }
+    ensures distance_without_an_extent { filter_reach untold (at_most 2) order_reach ≡ no_reach }
+    ensures distance_in_sentences { filter_reach (in_sentences (extent 3 1)) (F.Distance (AtMost 2) Sentences) order_reach ≡ window_reach 7 Sentences }
+    ensures distance_in_another_unit { filter_reach (in_sentences (extent 3 1)) (at_most 2) order_reach ≡ no_reach }
+    ensures distance_in_paragraphs { filter_reach (record untold { paragraphs = extent 2 1 }) (F.Distance (Exactly 4) Paragraphs) no_reach ≡ window_reach 6 Paragraphs }
+    ensures scope { filter_reach untold F.SameSentence (window_reach 4 Words) ≡ record (window_reach 4 Words) { sentences = Some 1 } }
+    ensures scope_in_a_window { filter_reach untold F.SameParagraph (window_reach 5 Paragraphs) ≡ window_reach 1 Paragraphs }
+    ensures order { filter_reach untold F.Ordered (window_reach 4 Words) ≡ record (window_reach 4 Words) { ordered = true } }
+    ensures start { filter_reach untold F.AtStart (window_reach 4 Words) ≡ window_reach 4 Words }
     ensures joined { filter_bounds (F.Window 4 Words) (record (words_between 3 8) { order = record { query = 1; from = 5 } }) ≡ words_between 3 8 }
     ensures not_joined { filter_bounds F.SameSentence (record (words_between 3 8) { order = record { query = 1; from = 5 } })
         ≡ record (words_between 3 8) { order = record { query = 1; from = 5 } } }
-    ensures where_each_window_counts { reach_inside Each None (F.Window 4 Words) no_reach ≡ no_reach }
-    ensures where_it_does_not { reach_inside Telling None (F.Window 4 Words) no_reach ≡ window_reach 4 Words }
+    ensures where_each_window_counts { reach_inside Each untold (F.Window 4 Words) no_reach ≡ no_reach }
+    ensures where_it_does_not { reach_inside Telling untold (F.Window 4 Words) no_reach ≡ window_reach 4 Words }
 {}
 
 /// Inside a window those ways are gone through whose hits have room in one; inside `ordered`, those in order.
@@ -149,21 +152,24 @@ pub fn ways_in_bounds()
     ensures in_a_window { pairs_on (inside (F.Window 2 Words)) ≡ pair 1 2 ∷ pair 5 4 ∷ [] }
     ensures at_a_distance { pairs_on (inside_few (at_most 1)) ≡ pair 1 2 ∷ pair 5 4 ∷ [] }
     ensures at_a_longer_one { pairs_on (inside_few (at_most 2)) ≡ pair 1 2 ∷ pair 1 4 ∷ pair 5 2 ∷ pair 5 4 ∷ [] }
+    ensures at_a_distance_in_sentences { ways_on inside_near (together (phrase (in_sentence 1 1 ∷ in_sentence 9 7 ∷ [])) (phrase (in_sentence 4 3 ∷ [])))
+        ≡ two_ways (one_hit (in_sentence 1 1)) (one_hit (in_sentence 4 3)) ∷ [] }
     ensures in_order { pairs_on (inside F.Ordered) ≡ pair 1 2 ∷ pair 1 4 ∷ [] }
     ensures anywhere { pairs_on (inside F.AtStart) ≡ pair 1 2 ∷ pair 1 4 ∷ pair 5 2 ∷ pair 5 4 ∷ [] }
     ensures each { pairs_on (every (span 1 9)) ≡ pair 1 2 ∷ pair 1 4 ∷ pair 5 2 ∷ pair 5 4 ∷ [] }
 {}
 
-/// Includes with so many words between neighbours spread over their own words and those between.
-pub fn words_at_distances()
-    ensures of_three { words_of 3 2 4 ≡ 14 }
-    ensures of_one { words_of 1 2 4 ≡ 2 }
-    ensures of_none { words_of 0 2 4 ≡ 0 }
-    ensures exactly { most_between (Exactly 3) Words ≡ Some 3 }
-    ensures at_least { most_between (AtLeast 3) Words ≡ None }
-    ensures from_to { most_between (FromTo 1 4) Words ≡ Some 4 }
-    ensures in_sentences { most_between (AtMost 3) Sentences ≡ None }
-    ensures in_paragraphs { most_between (AtMost 3) Paragraphs ≡ None }
+/// Includes with so much between neighbours spread over their own words and those between, or their sentences or paragraphs.
+pub fn sizes_at_distances()
+    ensures of_three { size_of 3 2 4 ≡ 14 }
+    ensures of_one { size_of 1 2 4 ≡ 2 }
+    ensures of_none { size_of 0 2 4 ≡ 0 }
+    ensures exactly { greatest_value (Exactly 3) ≡ Some 3 }
+    ensures at_least { greatest_value (AtLeast 3) ≡ None }
+    ensures from_to { greatest_value (FromTo 1 4) ≡ Some 4 }
+    ensures at_most { greatest_value (AtMost 3) ≡ Some 3 }
+    ensures in_the_same_unit { in_same Sentences Sentences (Some 3) ≡ Some 3 }
+    ensures in_another_unit { in_same Sentences Words (Some 3) ≡ None }
     ensures known { spread (extent 2 1) (Some 3) ≡ Some 5 }
     ensures unlimited { spread (extent 2 1) None ≡ None }
     ensures of_unknown_includes { spread None (Some 3) ≡ None }
@@ -171,61 +177,76 @@ pub fn words_at_distances()
     ensures no_further { small 4294967296 ≡ None }
 {}
 
-/// How many includes ways have, and how many words the longest of them: a window and a distance leave one of their own size.
+/// How many includes ways have, and how large the largest of them is: a window and a distance leave one of their own size, in their unit.
 pub fn extents()
-    ensures longest_hit { longest (at 4 ∷ from_to 1 3 ∷ at 5 ∷ []) ≡ 3 }
-    ensures of_no_hit { longest [] ≡ 0 }
-    ensures of_a_phrase { extent_of two_words ≡ extent 1 2 }
-    ensures of_a_choice { extent_of (either two_words (together one_word one_word)) ≡ extent 2 2 }
-    ensures of_both { extent_of (together two_words one_word) ≡ extent 2 2 }
+    ensures longest_hit { longest Words (at 4 ∷ from_to 1 3 ∷ at 5 ∷ []) ≡ 3 }
+    ensures of_no_hit { longest Words [] ≡ 0 }
+    ensures of_a_phrase { extent_of Words two_words ≡ extent 1 2 }
+    ensures of_a_choice { extent_of Words (either two_words (together one_word one_word)) ≡ extent 2 2 }
+    ensures of_both { extent_of Words (together two_words one_word) ≡ extent 2 2 }
     ensures with_more_on_the_right { extent_of_both (extent 1 1) (extent 2 3) ≡ extent 3 3 }
-    ensures of_mild_not { extent_of (apart one_word two_words) ≡ extent 1 1 }
-    ensures of_negated { extent_of (negated two_words) ≡ extent 0 0 }
-    ensures of_a_distance { extent_of (through_filter (together two_words one_word) (at_most 3)) ≡ extent 1 7 }
-    ensures of_a_distance_without_end { extent_of (through_filter one_word (F.Distance (AtLeast 3) Words)) ≡ None }
-    ensures of_a_window { extent_behind (F.Window 9 Words) None ≡ extent 1 9 }
-    ensures of_a_window_of_sentences { extent_behind (F.Window 9 Sentences) (extent 2 1) ≡ None }
-    ensures of_another_filter { extent_behind F.Ordered (extent 2 1) ≡ extent 2 1 }
+    ensures of_mild_not { extent_of Words (apart one_word two_words) ≡ extent 1 1 }
+    ensures of_negated { extent_of Words (negated two_words) ≡ extent 0 0 }
+    ensures of_a_distance { extent_of Words (through_filter (together two_words one_word) (at_most 3)) ≡ extent 1 7 }
+    ensures of_a_distance_without_end { extent_of Words (through_filter one_word (F.Distance (AtLeast 3) Words)) ≡ None }
+    ensures of_a_window { extent_behind Words (F.Window 9 Words) None ≡ extent 1 9 }
+    ensures of_a_window_of_sentences { extent_behind Words (F.Window 9 Sentences) (extent 2 1) ≡ None }
+    ensures in_sentences { extent_behind Sentences (F.Window 9 Sentences) (extent 2 1) ≡ extent 1 9 }
+    ensures in_paragraphs { longest Paragraphs (record (at 4) { para_to = 3 } ∷ at 5 ∷ []) ≡ 3 }
+    ensures of_another_filter { extent_behind Words F.Ordered (extent 2 1) ≡ extent 2 1 }
     ensures of_an_unknown_side { extent_of_either (extent 2 1) None ≡ None }
     ensures with_an_unknown_side { extent_of_both None (extent 2 1) ≡ None }
     ensures of_unknown_words { one_include None ≡ None }
     ensures of_too_many { extent_of_both (extent 4294967295 1) (extent 1 1) ≡ None }
 {}
 
-/// What ways have before distances whose words between neighbours are limited; there alone it matters.
+/// What ways have before distances in the unit that are limited; there alone it matters.
 pub fn extents_before_distances()
-    ensures before_one { extent_inside (through_filter (together two_words one_word) (at_most 3)) ≡ extent 2 2 }
-    ensures without_one { extent_inside (through_filter (together two_words one_word) F.Ordered) ≡ extent 0 0 }
-    ensures before_one_without_end { extent_before (F.Distance (AtLeast 3) Words) (extent 2 2) ≡ no_include }
-    ensures before_one_in_sentences { extent_before (F.Distance (AtMost 3) Sentences) None ≡ no_include }
-    ensures before_two { extent_inside (through_filter (together one_word (through_filter (together two_words one_word) (at_most 3))) (at_most 1)) ≡ extent 2 7 }
-    ensures on_sides_of_mild_not { extent_inside (apart (through_filter (together one_word one_word) (at_most 1)) (through_filter two_words (at_most 3))) ≡ extent 2 2 }
-    ensures on_both_sides { extent_inside (together (through_filter two_words (at_most 3)) (through_filter (together one_word one_word) (at_most 1))) ≡ extent 2 2 }
-    ensures on_either_side { extent_inside (either (through_filter two_words (at_most 3)) (through_filter (together one_word one_word) (at_most 1))) ≡ extent 2 2 }
-    ensures before_a_window { extent_before (F.Window 2 Words) (extent 2 2) ≡ no_include }
-    ensures in_what_is_negated { extent_inside (negated (through_filter one_word (at_most 1))) ≡ extent 1 1 }
+    ensures before_one { extent_inside Words (through_filter (together two_words one_word) (at_most 3)) ≡ extent 2 2 }
+    ensures without_one { extent_inside Words (through_filter (together two_words one_word) F.Ordered) ≡ extent 0 0 }
+    ensures before_one_without_end { extent_before Words (F.Distance (AtLeast 3) Words) (extent 2 2) ≡ no_include }
+    ensures before_one_in_sentences { extent_before Words (F.Distance (AtMost 3) Sentences) None ≡ no_include }
+    ensures where_sentences_are_asked_for { extent_before Sentences (F.Distance (AtMost 3) Sentences) (extent 2 2) ≡ extent 2 2 }
+    ensures before_two { extent_inside Words (through_filter (together one_word (through_filter (together two_words one_word) (at_most 3))) (at_most 1)) ≡ extent 2 7 }
+    ensures on_sides_of_mild_not { extent_inside Words (apart (through_filter (together one_word one_word) (at_most 1)) (through_filter two_words (at_most 3))) ≡ extent 2 2 }
+    ensures on_both_sides { extent_inside Words (together (through_filter two_words (at_most 3)) (through_filter (together one_word one_word) (at_most 1))) ≡ extent 2 2 }
+    ensures on_either_side { extent_inside Words (either (through_filter two_words (at_most 3)) (through_filter (together one_word one_word) (at_most 1))) ≡ extent 2 2 }
+    ensures before_a_window { extent_before Words (F.Window 2 Words) (extent 2 2) ≡ no_include }
+    ensures in_what_is_negated { extent_inside Words (negated (through_filter one_word (at_most 1))) ≡ extent 1 1 }
 {}
 
 /// What ways of the right sides of mild nots have; where that is no more than one include, it tells where one lies that covers
 /// hits of the left side.
 pub fn right_sides()
-    ensures of_a_mild_not { extent_beside (apart (together one_word one_word) two_words) ≡ extent 1 2 }
-    ensures of_none { extent_beside (together one_word two_words) ≡ extent 0 0 }
-    ensures on_either_side { extent_beside (either (apart one_word two_words) (apart one_word (together one_word one_word))) ≡ extent 2 2 }
-    ensures on_both_sides { extent_beside (together (apart one_word two_words) (apart one_word (together one_word one_word))) ≡ extent 2 2 }
-    ensures of_one_on_the_left { extent_beside (apart (apart one_word two_words) one_word) ≡ extent 1 2 }
-    ensures of_one_on_the_right { extent_beside (apart one_word (apart one_word two_words)) ≡ extent 1 2 }
-    ensures through_a_filter { extent_beside (through_filter (apart one_word two_words) F.Ordered) ≡ extent 1 2 }
-    ensures in_what_is_negated { extent_beside (negated (apart one_word two_words)) ≡ extent 1 2 }
-    ensures words_of_one { lone_words (extent 1 2) ≡ Some 2 }
-    ensures of_two_includes { lone_words (extent 2 2) ≡ None }
-    ensures unknown { lone_words None ≡ None }
+    ensures of_a_mild_not { extent_beside Words (apart (together one_word one_word) two_words) ≡ extent 1 2 }
+    ensures of_none { extent_beside Words (together one_word two_words) ≡ extent 0 0 }
+    ensures on_either_side { extent_beside Words (either (apart one_word two_words) (apart one_word (together one_word one_word))) ≡ extent 2 2 }
+    ensures on_both_sides { extent_beside Words (together (apart one_word two_words) (apart one_word (together one_word one_word))) ≡ extent 2 2 }
+    ensures of_one_on_the_left { extent_beside Words (apart (apart one_word two_words) one_word) ≡ extent 1 2 }
+    ensures of_one_on_the_right { extent_beside Words (apart one_word (apart one_word two_words)) ≡ extent 1 2 }
+    ensures through_a_filter { extent_beside Words (through_filter (apart one_word two_words) F.Ordered) ≡ extent 1 2 }
+    ensures in_what_is_negated { extent_beside Words (negated (apart one_word two_words)) ≡ extent 1 2 }
+    ensures size_of_one { lone_size (extent 1 2) ≡ Some 2 }
+    ensures of_two_includes { lone_size (extent 2 2) ≡ None }
+    ensures unknown { lone_size None ≡ None }
     ensures round_one { (course_out (beside 3) (from_to 5 6 ∷ [])).bounds ≡ words_between 4 8 }
     ensures round_two { (course_out (beside 3) (at 5 ∷ at 6 ∷ [])).bounds ≡ words_between 4 8 }
     ensures round_one_without_words { (course_out (beside 3) (from_to 5 4 ∷ [])).bounds ≡ everywhere }
     ensures round_none { (course_out (beside 3) []).bounds ≡ everywhere }
     ensures where_nothing_is_known { (course_out (every (span 1 9)) (at 5 ∷ [])).bounds ≡ everywhere }
     ensures out_of_a_window { (course_out (course_inside (F.Window 2 Words) (beside 3)) (at 5 ∷ [])).reach ≡ no_reach }
+{}
+
+/// Hits begin in order where of each two the one that begins no later in words begins in no later sentence.
+pub fn starts_in_order()
+    ensures one_after_another { starts_rise Sentences (in_sentence 1 1 ∷ in_sentence 2 1 ∷ in_sentence 3 2 ∷ []) ≡ true }
+    ensures listed_backwards { starts_rise Sentences (in_sentence 3 2 ∷ in_sentence 1 1 ∷ []) ≡ true }
+    ensures in_an_earlier_sentence { starts_rise Sentences (in_sentence 1 2 ∷ in_sentence 3 1 ∷ []) ≡ false }
+    ensures at_one_word_in_two { starts_rise Sentences (in_sentence 3 1 ∷ in_sentence 3 2 ∷ []) ≡ false }
+    ensures in_paragraphs { starts_rise Paragraphs (in_sentence 1 2 ∷ in_sentence 3 1 ∷ []) ≡ true }
+    ensures two { rises_to Sentences (in_sentence 3 2) (in_sentence 1 1) ≡ true }
+    ensures of_each_phrase { hits_of (together two_words (through_filter (negated (phrase (at 5 ∷ []))) F.Ordered)) ≡ from_to 1 2 ∷ at 4 ∷ at 5 ∷ [] }
+    ensures of_either_side { hits_of (apart (either (phrase (at 1 ∷ [])) (phrase (at 2 ∷ []))) (phrase (at 3 ∷ []))) ≡ at 1 ∷ at 2 ∷ at 3 ∷ [] }
 {}
 
 /// Hits of the left side that stand out of each way are those of a mild not, and all are where no way has a hit.

@@ -9,9 +9,10 @@
 //!
 //! Where it is only asked whether some way is clean, a walk seeks each further hit where those that were chosen before, and
 //! the filters round all of them, let it lie (`bounds`, `narrowing`): ways that it leaves out go through no filter. How far
-//! apart the includes before a distance may lie follows from how many they are and how many words they have, which is read
-//! off the hits before (`measuring`). So does how far from the hits of the left side of a mild not an include of the right
-//! side lies that covers them, where each way of the right side has no more than one.
+//! apart the includes before a distance may lie follows from how many they are and how large they are, which is read
+//! off the hits before (`measuring`). In sentences and paragraphs it does so where the hits begin in the order of the text, which is
+//! looked at too (`rising`). How far from the hits of the left side of a mild not an include of the right side lies that covers
+//! them, where each way of the right side has no more than one, is read off them likewise.
 //!
 //! Of the clean ways the one whose includes come first by their places is found by going through all of them (`comparing`), but for ways that
 //! come in the order of their includes: there it is the first clean one (`ordering`).
@@ -39,6 +40,7 @@ mod own_span;
 mod phrase_hits;
 mod probing;
 mod reach;
+mod rising;
 mod standing_out;
 #[cfg(test)]
 mod tests;

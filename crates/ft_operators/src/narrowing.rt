@@ -2,7 +2,7 @@
 
 ghost use Rattle.std.specs.Prelude.{◌≡◌, ◌≤◌, fold, vec_capacity};
 ghost use Rattle.ft_operators.specs.Bounds.{all_numbers, bounds_inside, earlier_end, filter_bounds, filter_reach, numbers_round, order_behind};
-ghost use Rattle.ft_operators.specs.Bounds.{reach_inside, round_hit, round_hits, smaller, window_reach};
+ghost use Rattle.ft_operators.specs.Bounds.{reach_inside, round_hit, round_hits, smaller, unit_reach};
 ghost use Rattle.ft_operators.specs.Course.{course_out, round_words};
 ghost use Rattle.ft_operators.specs.Standing.{course_now, includes_now};
 ghost use Rattle.ft_operators.specs.steps.Nodes.{standing};
@@ -11,7 +11,7 @@ ghost use Rattle.ft_operators.specs.steps.Walking.{MayGoOn};
 use crate::PhraseHits;
 use crate::bounds::{Bounds, OrderBound, UnitBounds};
 use crate::course::{Course, Windows};
-use crate::extent::{Extent, lone_words, most_between, spread};
+use crate::extent::{UnitExtents, extent_in, greatest_value, lone_size, spread};
 use crate::gathering::gather;
 use crate::node::Node;
 use crate::reach::{Reach, no_reach};
@@ -34,7 +34,7 @@ pub(crate) fn course_now<P: PhraseHits>(
         windows: course.windows,
         bounds: round_hits(&course.reach, course.bounds, held),
         reach: course.reach,
-        extent: course.extent,
+        extents: course.extents,
         beside: course.beside,
     }
 }
@@ -52,7 +52,7 @@ pub(crate) fn course_out<P: PhraseHits>(
     held.clear();
     gather(left, held);
     let bounds = Bounds {
-        words: round_each(lone_words(course.beside), held),
+        words: round_each(lone_size(course.beside), held),
         ..Bounds::everywhere()
     };
     Course {
@@ -181,31 +181,31 @@ fn filter_bounds(kind: &Filter, bounds: Bounds) -> Bounds
 /// What is said of every two includes before a filter. Where each window is gone through no way is left out.
 pub(crate) fn reach_inside(
     windows: Windows,
-    extent: Option<Extent>,
+    extents: UnitExtents,
     kind: &Filter,
     reach: Reach,
 ) -> Reach
-    ensures { result ≡ reach_inside windows extent kind.now reach }
+    ensures { result ≡ reach_inside windows extents kind.now reach }
 {
     match windows {
         Windows::Each => reach,
-        Windows::Telling | Windows::First => filter_reach(extent, kind, reach),
+        Windows::Telling | Windows::First => filter_reach(extents, kind, reach),
     }
 }
 
-fn filter_reach(extent: Option<Extent>, kind: &Filter, reach: Reach) -> Reach
-    ensures { result ≡ filter_reach extent kind.now reach }
+fn filter_reach(extents: UnitExtents, kind: &Filter, reach: Reach) -> Reach
+    ensures { result ≡ filter_reach extents kind.now reach }
 {
     match *kind {
         Filter::Ordered => Reach {
             ordered: true,
             ..reach
         },
-        Filter::Window(size, unit) => window_reach(size, unit),
-        Filter::Distance(range, unit) => Reach {
-            words: spread(extent, most_between(range, unit)),
-            ..no_reach()
-        },
+        Filter::Window(size, unit) => unit_reach(unit, Some(size)),
+        Filter::Distance(range, unit) => {
+            let extent = extent_in(unit, &extents);
+            unit_reach(unit, spread(extent, greatest_value(range)))
+        }
         Filter::SameSentence => Reach {
             sentences: Some(smaller(reach.sentences, 1)),
             ..reach
@@ -218,21 +218,21 @@ fn filter_reach(extent: Option<Extent>, kind: &Filter, reach: Reach) -> Reach
     }
 }
 
-/// A window of the size in the unit.
-fn window_reach(size: u32, unit: Unit) -> Reach
-    ensures { result ≡ window_reach size unit }
+/// A window of the size, if there is one, in the unit alone.
+fn unit_reach(unit: Unit, size: Option<u32>) -> Reach
+    ensures { result ≡ unit_reach unit size }
 {
     match unit {
         Unit::Words => Reach {
-            words: Some(size),
+            words: size,
             ..no_reach()
         },
         Unit::Sentences => Reach {
-            sentences: Some(size),
+            sentences: size,
             ..no_reach()
         },
         Unit::Paragraphs => Reach {
-            paragraphs: Some(size),
+            paragraphs: size,
             ..no_reach()
         },
     }

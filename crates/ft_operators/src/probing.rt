@@ -9,6 +9,7 @@ ghost use Rattle.ft_operators.specs.Walk.{before_first};
 use crate::chain::Chain;
 use crate::cleaning::some_is_kept;
 use crate::course::firsts;
+use crate::extent::untold;
 use crate::{PhraseHits, Tuples};
 use ft_base::Steps;
 use std::sync::ledger::Ledger;
@@ -29,6 +30,6 @@ pub fn probe<P: PhraseHits + Drop, L: Ledger>(
     ensures grown { steps.old ≤ steps.new }
 {
     negated.there = false;
-    let firsts = firsts(negated.item, chain.bounds(), None, None);
+    let firsts = firsts(negated.item, chain.bounds(), untold(), None);
     some_is_kept(&mut negated.node, firsts, chain, &mut negated.held, steps)
 }

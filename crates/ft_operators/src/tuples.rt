@@ -14,7 +14,7 @@ use crate::comparing::least_of_clean;
 use crate::course::{every, tellings};
 use crate::gathering::hold;
 use crate::joining::joined_memory;
-use crate::measuring::extents_inside;
+use crate::measuring::told_of;
 use crate::node::Node;
 use crate::ordering::comes_in_order;
 use crate::own_span::own_span;
@@ -245,8 +245,8 @@ impl<P: PhraseHits + Drop> Tuples<P> {
     /// is said of the answer.
     ///
     /// However large the windows of a filter are, in a way of its operand it goes through no more of them than the first
-    /// number of the joined hit and one: those that begin at a word, and the first one. Where a distance in words with a
-    /// greatest value stands inside, or a mild not, it looks at each hit once before it goes through the ways.
+    /// number of the joined hit and one: those that begin at a word, and the first one. Where a distance with a greatest
+    /// value stands inside, or a mild not, it looks at each hit before it goes through the ways.
     pub fn satisfied_at<L: Ledger>(
         &mut self,
         doc: DocId,
@@ -266,8 +266,8 @@ impl<P: PhraseHits + Drop> Tuples<P> {
         ensures grown { steps.old ≤ steps.new }
     {
         self.aim(doc, span, steps);
-        let extents = extents_inside(&mut self.node, steps);
-        let tellings = tellings(self.item, extents.inside, extents.beside);
+        let told = told_of(&mut self.node, steps);
+        let tellings = tellings(self.item, told.extents, told.beside);
         some_is_clean(&mut self.node, tellings, chain, &mut self.held, steps)
     }
 
@@ -298,8 +298,8 @@ impl<P: PhraseHits + Drop> Tuples<P> {
     {
         self.aim(doc, span, steps);
         let in_order = comes_in_order(&mut self.node, steps);
-        let extents = extents_inside(&mut self.node, steps);
-        let tellings = tellings(self.item, extents.inside, extents.beside);
+        let told = told_of(&mut self.node, steps);
+        let tellings = tellings(self.item, told.extents, told.beside);
         least_of_clean(
             &mut self.node,
             tellings,

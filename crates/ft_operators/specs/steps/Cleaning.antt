@@ -6,8 +6,9 @@ use Rattle.all_matches.specs.Chain.{kept_by}
 use Rattle.all_matches.specs.Ways.{Operator, Way, is_plain}
 use Rattle.ft_operators.specs.declared.course.Course.{Course}
 use Rattle.ft_operators.specs.Course.{ways_on}
-use Rattle.ft_operators.specs.Extents.{extent_beside, extent_inside}
-use Rattle.ft_operators.specs.steps.Measuring.{holds}
+use Rattle.ft_base.specs.declared.unit.TextUnit.TheVariants.{Words}
+use Rattle.ft_operators.specs.Extents.{extent_beside}
+use Rattle.ft_operators.specs.steps.Measuring.{are_held, holds}
 use Rattle.ft_operators.specs.declared.chain.Chain.{Chain}
 use Rattle.ft_operators.specs.Chains.{clean_now, links_of, IsKept}
 use Rattle.ft_operators.specs.Standing.{Standing, frame}
@@ -37,7 +38,7 @@ pub record MayAsk (now : Standing) (room more_filters more_hits : ℕ) : Type 0 
 -- whether a course tells which ways of an operator are clean: negated selections stand neither inside one another nor inside mild
 -- not, and what the course says of includes holds
 abbrev pub tells : Course → Operator → Bool
-tells course operator = is_plain operator && (holds course.extent (extent_inside operator) && holds course.beside (extent_beside operator))
+tells course operator = is_plain operator && (are_held course.extents operator && holds course.beside (extent_beside Words operator))
 
 -- a walk of which it was asked whether its present way is clean under a chain
 pub record Asked (course : Course) (old now : Standing) (before after : Chain) (room new_room start end : ℕ) (answer : Bool) : Type 0 where

@@ -2,9 +2,10 @@
 use Rattle.std.proofs.Common.{◌<◌, ◌∙◌, ap, arith, length, subst, sym, vec_capacity}
 use Rattle.all_matches.specs.Filters.{choices}
 use Rattle.ft_operators.specs.Course.{asked_for, course_inside, without_bounds}
+use Rattle.ft_operators.specs.Standing.{course_now}
 use Rattle.ft_operators.specs.steps.Nodes.{standing}
 use Rattle.ft_operators.proofs.SeenLemmas.{seen_asked}
-use Rattle.ft_operators.proofs.CleanLemmas.{may_inside, asked_inside, asked_phrase, asked_apart, held_includes, lead_chosen, link_with, asked_filtered}
+use Rattle.ft_operators.proofs.CleanLemmas.{may_inside, asked_inside, asked_phrase, asked_apart, asked_barred, asked_both, asked_first, asked_second, held_includes, lead_chosen, link_with, asked_filtered}
 use Rattle.ft_operators.proofs.ChainLemmas.{put_and_taken}
 use Rattle.ft_operators.proofs.FrameLemmas.{shaped_Both, shaped_Choice, shaped_Filtered, shaped_MildNot}
 use Rattle.ft_operators.proofs.NodeLemmas.{standing_Choice, standing_Both, standing_MildNot, standing_Negated, standing_Filtered, inside_Phrase, inside_Choice, inside_Both, inside_MildNot, inside_Negated, inside_Filtered}
@@ -72,6 +73,40 @@ pub is_clean-returns-in-Phrase : goal.is_clean-returns-in-Phrase
 is_clean-returns-in-Phrase g t c =
     let state = g.P.PhraseHits.state in
     asked_phrase c.args.course (state c.in-Phrase.field-0) (standing state c.args.course c.args.node.now) c.args.chain.now (vec_capacity c.args.held.now) c.args.steps.now (inside_Phrase state c.args.course c.args.node.now c.in-Phrase.field-0 c.in-Phrase.is)
+
+pub fork_is_clean-returns-then-fork : goal.fork_is_clean-returns-then-fork
+fork_is_clean-returns-then-fork g t c =
+    let at = standing g.P.PhraseHits.state c.args.course in
+    let fork = c.args.fork.now in
+    asked_second c.args.course fork.second (at fork.left) (at fork.right) (at c.is_clean.new.node) c.args.chain.now c.is_clean.new.chain (vec_capacity c.args.held.now) (vec_capacity c.is_clean.new.held)
+    c.args.steps.now c.is_clean.new.steps c.is_clean.result c.if-fork.true c.is_clean.ensures
+
+pub fork_is_clean-returns-else-fork : goal.fork_is_clean-returns-else-fork
+fork_is_clean-returns-else-fork g t c =
+    let at = standing g.P.PhraseHits.state c.args.course in
+    let fork = c.args.fork.now in
+    asked_first c.args.course fork.second (at fork.left) (at fork.right) (at c.is_clean-else-fork.new.node) c.args.chain.now c.is_clean-else-fork.new.chain (vec_capacity c.args.held.now)
+    (vec_capacity c.is_clean-else-fork.new.held) c.args.steps.now c.is_clean-else-fork.new.steps c.is_clean-else-fork.result c.if-fork.false c.is_clean-else-fork.ensures
+
+pub pair_is_clean-returns-then-not-is_clean : goal.pair_is_clean-returns-then-not-is_clean
+pair_is_clean-returns-then-not-is_clean g t c =
+    let state = g.P.PhraseHits.state in
+    let at = standing state c.args.course in
+    let pair = c.args.pair.now in
+    asked_barred c.args.course (at pair.left) (at c.is_clean.new.node) (λ ways. standing state (course_now c.args.course ways) pair.right) (vec_capacity c.args.held.now) _ _ c.requires c.args.chain.now c.is_clean.new.chain
+    (vec_capacity c.is_clean.new.held) c.args.steps.now c.is_clean.new.steps c.is_clean.result c.if-not-is_clean.true c.is_clean.ensures
+
+pub pair_is_clean-returns : goal.pair_is_clean-returns
+pair_is_clean-returns g t c =
+    let state = g.P.PhraseHits.state in
+    let course = c.args.course in
+    let at = standing state course in
+    let pair = c.args.pair.now in
+    let beside = c.course_now-beside.ensures.course ∙ ap (λ s. course_now course s.rest) c.is_clean.ensures.same in
+    asked_both course (at pair.left) (at c.is_clean.new.node) (λ ways. standing state (course_now course ways) pair.right) (vec_capacity c.args.held.now) _ _ c.requires
+    (λ ways. standing state (course_now course ways) c.is_clean-2.new.node) c.args.chain.now c.is_clean.new.chain c.is_clean-2.new.chain (vec_capacity c.is_clean.new.held) (vec_capacity c.course_now-beside.new.held)
+    (vec_capacity c.is_clean-2.new.held) c.args.steps.now c.is_clean.new.steps c.is_clean-2.new.steps c.is_clean.result c.is_clean-2.result c.if-not-is_clean.false c.course_now-beside.ensures.room c.is_clean.ensures
+    (seen_asked state c.course_now-beside.result (course_now course (at pair.left).rest) beside pair.right c.is_clean-2.new.node _ _ _ _ _ _ c.is_clean-2.result c.is_clean-2.ensures)
 
 pub apart_is_clean-returns : goal.apart_is_clean-returns
 apart_is_clean-returns g t c =

@@ -15,6 +15,10 @@ pub returns-clause-at_a_longer_one : goal.returns-clause-at_a_longer_one
 unfolding ways_on
 returns-clause-at_a_longer_one c = refl
 
+pub returns-clause-at_a_distance_in_sentences : goal.returns-clause-at_a_distance_in_sentences
+unfolding ways_on
+returns-clause-at_a_distance_in_sentences c = refl
+
 pub returns-clause-in_order : goal.returns-clause-in_order
 unfolding ways_on
 returns-clause-in_order c = refl

@@ -1,4 +1,4 @@
--- What is left makes of the words found what all hits make of none.
+-- What is left makes of the size found what all hits make of none.
 use Rattle.std.proofs.Common.{length}
 use Rattle.ft_operators.specs.steps.Measuring.{Passing}
 use Rattle.ft_operators.proofs.measuring.longest.Given as goal
@@ -6,7 +6,7 @@ use Rattle.ft_operators.proofs.measuring.longest.Given as goal
 abbrev pub invariant-loop-hit : goal.invariant-loop-hit
 invariant-loop-hit g l =
     let state = g.P.PhraseHits.state in
-    Passing (state l.fn.phrase) (state l.phrase) l.fn.steps l.steps l.words
+    Passing l.unit (state l.fn.phrase) (state l.phrase) l.fn.steps l.steps l.size
 
 abbrev pub decreases-loop-hit : goal.decreases-loop-hit
 decreases-loop-hit g l = length ((g.P.PhraseHits.state l.phrase).rest)

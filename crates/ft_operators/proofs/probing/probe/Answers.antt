@@ -37,7 +37,7 @@ returns-clause-kept g c bare =
     let kept = kept_by (links_of c.args.chain.now) in
     c.some_is_kept.ensures.found tt
     ∙ ap (λ f. list_any (all_kept kept) (ways_on c.firsts-firsts.result f.operator)) (frame_same g.P.PhraseHits.state c.firsts-firsts.result negated.node)
-    ∙ ap (λ course. list_any (all_kept kept) (ways_on course (frame_of g.P.PhraseHits.state negated.node).operator)) (c.firsts-firsts.ensures ∙ ap (λ bounds. firsts negated.item bounds None None) c.bounds.ensures)
+    ∙ ap (λ course. list_any (all_kept kept) (ways_on course (frame_of g.P.PhraseHits.state negated.node).operator)) (c.firsts-firsts.ensures ∙ (λ i. firsts negated.item (c.bounds.ensures i) (c.untold.ensures i) None))
     ∙ some_kept (every negated.item) (frame_of g.P.PhraseHits.state negated.node).operator (links_of c.args.chain.now) (λ i. bare i && true)
 
 pub returns-clause-walk : goal.returns-clause-walk
