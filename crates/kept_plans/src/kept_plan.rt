@@ -33,7 +33,7 @@ pub struct KeptPlan {
 
 impl Model for KeptPlan {
     ghost use Rattle.kept_plans.specs.PlanOf.{PlanOf};
-    ghost use Rattle.kept_plans.specs.steps.Codes.{plan_code};
+    ghost use Rattle.kept_plans.specs.Codes.{plan_code};
 
     ghost Value = { PlanOf };
 

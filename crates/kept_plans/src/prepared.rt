@@ -8,7 +8,7 @@ ghost use Rattle.plan_compiler.specs.NamedLists.{with_stems, with_stop_list, wit
 ghost use Rattle.kept_plans.specs.Kept.{all_used, is_kept, used};
 ghost use Rattle.kept_plans.specs.PlanOf.{plan_of};
 ghost use Rattle.kept_plans.specs.Preparation.{texts_of, CanKeep, nothing_prepared, with_kept, with_new_lists};
-ghost use Rattle.kept_plans.specs.steps.Next.{IsNext};
+ghost use Rattle.kept_plans.specs.Next.{IsNext};
 ghost use Rattle.kept_plans.specs.steps.Recent.{AllKept};
 
 use crate::kept_plan::KeptPlan;
@@ -36,7 +36,7 @@ pub struct Prepared {
 
 impl Model for Prepared {
     ghost use Rattle.kept_plans.specs.Preparation.{Preparation};
-    ghost use Rattle.kept_plans.specs.steps.Codes.{preparation_code};
+    ghost use Rattle.kept_plans.specs.Codes.{preparation_code};
 
     ghost Value = { Preparation };
 

@@ -29,7 +29,7 @@ impl Model for RecentPlans {
     ghost use Rattle.std.specs.Coded.{coded_list};
     ghost use Rattle.std.specs.Map.{values_of};
     ghost use Rattle.kept_plans.specs.PlanOf.{PlanOf};
-    ghost use Rattle.kept_plans.specs.steps.Codes.{plan_code};
+    ghost use Rattle.kept_plans.specs.Codes.{plan_code};
     ghost use Rattle.kept_plans.specs.steps.Recent.{IsRecent};
 
     ghost Value = { List PlanOf };

@@ -33,7 +33,7 @@ pub struct Marks<'v> {
 
 impl<'v> Model for Marks<'v> {
     ghost use Rattle.plan_runs.specs.RunMeaning.{RunMeaning};
-    ghost use Rattle.plan_runs.specs.steps.RunCode.{run_code};
+    ghost use Rattle.plan_runs.specs.RunCode.{run_code};
     ghost use Rattle.match_marks.specs.steps.ShownRuns.{ShowsBest, showing};
 
     ghost Value = { RunMeaning };

@@ -25,4 +25,5 @@ pub mod PriceExamples
 pub mod CompiledSelection
 pub mod CompiledCounts
 pub mod CompiledShown
+pub mod FormCode
 pub mod steps

@@ -2,4 +2,5 @@ pub mod RunMeaning
 pub mod Judgement
 pub mod RunPrice
 pub mod OpenedParts
+pub mod RunCode
 pub mod steps

@@ -1,4 +1,3 @@
-pub mod RunCode
 pub mod ChosenTerms
 pub mod MarkedTerms
 pub mod Counts

@@ -38,7 +38,7 @@ impl<'v> Model for Run<'v> {
     ghost use Rattle.plan_runs.specs.steps.OpenedWords.{IsOpened};
     ghost use Rattle.plan_compiler.specs.PlanMeaning.{plan_form, plan_lists};
     ghost use Rattle.plan_runs.specs.steps.RuledOut.{HasNone};
-    ghost use Rattle.plan_runs.specs.steps.RunCode.{run_code};
+    ghost use Rattle.plan_runs.specs.RunCode.{run_code};
     ghost use Rattle.plan_runs.specs.RunMeaning.{RunMeaning, run_of};
     ghost use Rattle.plan_runs.specs.steps.RunShapes.{shape};
 
@@ -75,6 +75,20 @@ impl<'v> Run<'v> {
             root,
             ruled_out: RuledOut::new(),
         })
+    }
+
+    /// The version of the index that it is over.
+    pub fn version(&self) -> &Version
+        ensures { result.now ≡ self.now.version }
+    {
+        self.version
+    }
+
+    /// The plan of this run over another version.
+    pub fn open_over<'w>(&'w self, alloc: Global, version: &'w Version) -> Result<Run<'w>, Memory>
+        ensures { IfOk result (λ run. run ≡ run_of self.now.form self.now.lists version.now) }
+    {
+        Run::open(alloc, self.plan, version)
     }
 
     /// Whether the tokens of the span of the document satisfy the plan's selection. It moves cursors forward, counts each move, and takes

@@ -4,7 +4,7 @@ use Rattle.std.specs.Coded.{Coded, code_by, coded×, coded_list, coded_ℕ}
 use Rattle.ft_base.specs.Selection.{Form}
 use Rattle.index_meaning.specs.Documents.{Document, Leaf, Numbered}
 use Rattle.plan_compiler.specs.NamedLists.{NamedLists}
-use Rattle.plan_compiler.specs.steps.FormCode.{bytes_code, form_code, lists_code}
+use Rattle.plan_compiler.specs.FormCode.{bytes_code, form_code, lists_code}
 use Rattle.plan_runs.specs.RunMeaning.{RunMeaning}
 
 abbrev leaf_code : Coded Leaf

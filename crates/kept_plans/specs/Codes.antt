@@ -3,7 +3,7 @@ use Rattle.std.specs.Prelude.{ℕ, List, refl}
 use Rattle.std.specs.Coded.{Coded, code_by, coded×, coded_list, coded_ℕ}
 use Rattle.ft_base.specs.Selection.{Form}
 use Rattle.plan_compiler.specs.NamedLists.{NamedLists}
-use Rattle.plan_compiler.specs.steps.FormCode.{bytes_code, form_code, lists_code}
+use Rattle.plan_compiler.specs.FormCode.{bytes_code, form_code, lists_code}
 use Rattle.kept_plans.specs.Kept.{Kept}
 use Rattle.kept_plans.specs.PlanOf.{PlanOf}
 use Rattle.kept_plans.specs.Preparation.{Preparation}
