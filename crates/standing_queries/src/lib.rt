@@ -4,6 +4,7 @@
 #![tactic(auto)]
 
 pub mod examples;
+mod line_fronts;
 mod line_set;
 mod shared_lines;
 mod standing;

@@ -1,7 +1,8 @@
 //! Lines, each once, to be asked whether a line is among them.
 
-ghost use Rattle.std.specs.Prelude.{◌≡◌, ◌&&◌, ◌||◌, ◌∷◌, ◌++◌, [], ℕ, List, OnOk, filter, not};
+ghost use Rattle.std.specs.Prelude.{◌≡◌, ◌&&◌, ◌||◌, ◌∷◌, ◌++◌, [], ℕ, List, OnOk, filter, not, true};
 ghost use Rattle.standing_queries.specs.Changes.{behind, is_among};
+ghost use Rattle.standing_queries.specs.steps.Fronts.{begins_with};
 ghost use Rattle.standing_queries.specs.steps.Staying.{has_line};
 
 use ft_base::Memory;
@@ -30,19 +31,24 @@ fn put_line<'a>(set: &mut LineSet<'a>, text: &'a str) -> Result<(), Memory>
     Ok(())
 }
 
-/// Takes all lines of a list out of the set.
-pub(crate) fn take_lines(set: &mut LineSet<'_>, lines: &TextList)
+/// Takes all lines of a list out of the set, whose lines have the front.
+pub(crate) fn take_lines(set: &mut LineSet<'_>, front: &[u8], lines: &TextList)
+    requires { (line : List ℕ) → has_line set.old line ≡ true → begins_with front.now line ≡ true }
     ensures { (line : List ℕ) → has_line set.new line ≡ (not (is_among lines.now line) && has_line set.old line) }
 {
     for number in 0..lines.len() {
-        take_line(set, lines.get(number));
+        take_line(set, front, lines.get(number));
     }
 }
 
-/// Takes one line out of the set.
-fn take_line(set: &mut LineSet<'_>, text: &str)
+/// Takes one line out of the set, whose lines have the front. One that hasn't isn't looked for.
+fn take_line(set: &mut LineSet<'_>, front: &[u8], text: &str)
+    requires { (line : List ℕ) → has_line set.old line ≡ true → begins_with front.now line ≡ true }
     ensures { (line : List ℕ) → has_line set.new line ≡ (not (is_among (text.now ∷ []) line) && has_line set.old line) }
 {
+    if !text.as_bytes().starts_with(front) {
+        return;
+    }
     set.remove(text);
 }
 

@@ -1,9 +1,11 @@
-ghost use Rattle.std.specs.Prelude.{◌≡◌, ◌&&◌, ◌||◌, ◌∷◌, ◌++◌, [], ℕ, List, IfOk, OnOk, filter, is_some, nat_eq, not};
+ghost use Rattle.std.specs.Prelude.{◌≡◌, ◌&&◌, ◌||◌, ◌∷◌, ◌++◌, [], ℕ, List, IfOk, OnOk, filter, is_some, nat_eq, not, true};
 ghost use Rattle.std.specs.List.{IsDistinct};
 ghost use Rattle.standing_queries.specs.Answers.{all_lines, answers_of, kept_under, stamps_of, turn_lines};
 ghost use Rattle.standing_queries.specs.Changes.{behind, changes, is_among, not_among};
+ghost use Rattle.standing_queries.specs.steps.Fronts.{begins_with, has_front};
 ghost use Rattle.standing_queries.specs.steps.Staying.{changed_lines, has_line, is_in, stays};
 
+use crate::line_fronts::front_with;
 use crate::line_set::{LineSet, push_lines, put_lines, take_lines};
 use crate::{SharedLines, Turn};
 use ft_base::Memory;
@@ -133,7 +135,7 @@ fn push_missing(
 {
     let mut set = HashSet::new(alloc);
     put_changed(&mut set, staying, answers)?;
-    take_all(&mut set, others);
+    take_all(&mut set, changed_front(staying, answers), others);
     push_changed(alloc, mark, &set, staying, answers, out)
 }
 
@@ -166,15 +168,51 @@ fn put_answer<'a>(
     put_lines(set, lines.lines())
 }
 
-/// Takes the lines of all answers out of the set.
-fn take_all(set: &mut LineSet<'_>, answers: &Standing)
+/// What the lines of the answers that don't stay begin with. Those of one document begin with its name, so that no line of another
+/// one has to be looked for among them.
+fn changed_front<'a>(staying: &HashSet<u64>, answers: &'a Standing) -> Option<&'a [u8]>
+    ensures { (line : List ℕ) → is_among (changed_lines (is_in staying.now) answers.now) line ≡ true → has_front result line ≡ true }
+{
+    let mut front = None;
+    for (stamp, lines) in answers.answers.iter() {
+        front = answer_front(front, staying, *stamp, lines);
+    }
+    front
+}
+
+/// The same with one answer.
+fn answer_front<'a>(
+    front: Option<&'a [u8]>,
+    staying: &HashSet<u64>,
+    stamp: u64,
+    lines: &'a SharedLines,
+) -> Option<&'a [u8]>
+    ensures before { (line : List ℕ) → has_front front.entry line ≡ true → has_front result line ≡ true }
+    ensures lines { (line : List ℕ) → is_among (changed_lines (is_in staying.now) ((stamp, lines.now) ∷ [])) line ≡ true → has_front result line ≡ true }
+{
+    if staying.contains(&stamp) {
+        return front;
+    }
+    front_with(front, lines.lines())
+}
+
+/// Takes the lines of all answers out of the set, whose lines have the front.
+fn take_all(set: &mut LineSet<'_>, front: Option<&[u8]>, answers: &Standing)
+    requires { (line : List ℕ) → has_line set.old line ≡ true → has_front front line ≡ true }
     ensures { (line : List ℕ) → has_line set.new line ≡ (not (is_among (all_lines answers.now) line) && has_line set.old line) }
 {
-    if set.is_empty() {
-        return;
+    match front {
+        None => {}
+        Some(front) => take_each(set, front, answers),
     }
+}
+
+fn take_each(set: &mut LineSet<'_>, front: &[u8], answers: &Standing)
+    requires { (line : List ℕ) → has_line set.old line ≡ true → begins_with front.now line ≡ true }
+    ensures { (line : List ℕ) → has_line set.new line ≡ (not (is_among (all_lines answers.now) line) && has_line set.old line) }
+{
     for (_, lines) in answers.answers.iter() {
-        take_lines(set, lines.lines());
+        take_lines(set, front, lines.lines());
     }
 }
 
