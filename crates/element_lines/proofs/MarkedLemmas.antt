@@ -80,12 +80,12 @@ first-from f items number other more =
     drop-cons (map f items) number (f other) (omega (arith, more, length-map items f))
     ∙ ap₂ (λ x k. x ∷ drop k (map f items)) (get_or-map f items number other) next
 
-pub one-word-more : (spans : List Span) (number : ℕ) (words : List (List ℕ)) (word line new : List ℕ) (marked : Bool)
+pub one-word-more : (spans : List Span) (number : ℕ) (words : List (List ℕ)) (word whole line new : List ℕ) (marked : Bool)
     → drop number words ≡ word ∷ drop (number + 1) words → marked ≡ is_marked spans (number + 1)
-    → line ++ words_from spans number (drop number words) ≡ marked_line spans words
+    → line ++ words_from spans number (drop number words) ≡ whole
     → new ≡ line ++ space_before number ++ shown_word marked word
-    → new ++ words_from spans (number + 1) (drop (number + 1) words) ≡ marked_line spans words
-one-word-more spans number words word line new marked split is known written =
+    → new ++ words_from spans (number + 1) (drop (number + 1) words) ≡ whole
+one-word-more spans number words word whole line new marked split is known written =
     let next : number + 1 ≡ suc number = omega arith in
     let rest = words_from spans (suc number) (drop (number + 1) words) in
     let shown = shown_word (is_marked spans (suc number)) word in

@@ -1,4 +1,4 @@
-//! The lines of a reply to a query: those that name elements, those that are their printed forms, and those that show their words.
+//! The lines of a reply to a query: those that name elements, those that are their printed forms, and those that show words.
 #![tactic(auto)]
 
 mod counting;
@@ -13,8 +13,7 @@ mod printed;
 mod siblings;
 mod span_ends;
 mod step_texts;
-mod tree_words;
 
-pub use marked::push_marked;
+pub use marked::Marking;
 pub use names::push_names;
 pub use printed::push_printed;

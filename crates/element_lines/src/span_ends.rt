@@ -1,28 +1,29 @@
 //! How far the spans reach that begin at a place.
 
-ghost use Rattle.std.specs.Prelude.{◌≡◌, ◌<◌, ℕ, cond, get_or, length, max, nat_eq, replicate, IfOk};
+ghost use Rattle.std.specs.Prelude.{◌≡◌, ◌<◌, ℕ, cond, get_or, length, max, nat_eq, replicate, OnOk};
 ghost use Rattle.element_lines.specs.steps.SpanEnds.{end_at};
 
 use ft_base::{Memory, Span};
-use std::alloc::Global;
 
-/// For each of so many places, from 0 on, the farthest end of the spans that begin there; 0 where none does.
-pub(crate) fn span_ends(alloc: Global, spans: &[Span], count: usize) -> Result<Vec<u32>, Memory>
-    ensures size { IfOk result (λ ends. length ends.items ≡ count) }
-    ensures ends { IfOk result (λ ends. (place : ℕ) → place < count → get_or ends.items place 0 ≡ end_at spans.now place) }
+/// Puts into the table, for each of so many places, from 0 on, the farthest end of the spans that begin there; 0 where none does.
+pub(crate) fn put_span_ends(spans: &[Span], count: usize, ends: &mut Vec<u32>) -> Result<(), Memory>
+    ensures size { OnOk result (length ends.new.items ≡ count) }
+    ensures ends { OnOk result ((place : ℕ) → place < count → get_or ends.new.items place 0 ≡ end_at spans.now place) }
 {
-    let mut ends = no_ends(alloc, count)?;
+    put_none(count, ends)?;
     for span in spans {
-        put_end(&mut ends, *span);
+        put_end(ends, *span);
     }
-    Ok(ends)
+    Ok(())
 }
 
-/// A table of so many places, where no span begins.
-fn no_ends(alloc: Global, count: usize) -> Result<Vec<u32>, Memory>
-    ensures { IfOk result (λ ends. ends.items ≡ replicate count 0) }
+/// Makes it a table of so many places, where no span begins.
+fn put_none(count: usize, ends: &mut Vec<u32>) -> Result<(), Memory>
+    ensures { OnOk result (ends.new.items ≡ replicate count 0) }
 {
-    Ok(vec![in alloc; 0u32; count]?)
+    ends.clear();
+    ends.resize(count, 0)?;
+    Ok(())
 }
 
 /// Puts the end of a span to the place at which it begins, if the table has it.

@@ -1,7 +1,7 @@
 -- The ends so far and those of the spans that are left are all.
 use Rattle.std.proofs.Common.{◌≡◌, ◌<◌, ℕ, drop, get_or, length, max}
 use Rattle.element_lines.specs.steps.SpanEnds.{end_at}
-use Rattle.element_lines.proofs.span_ends.span_ends.Given as goal
+use Rattle.element_lines.proofs.span_ends.put_span_ends.Given as goal
 
 abbrev pub invariant-loop-span : goal.invariant-loop-span
 invariant-loop-span l = record {
