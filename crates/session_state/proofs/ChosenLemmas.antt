@@ -8,7 +8,6 @@ use Rattle.std.proofs.lemmas.List.{length-map}
 use Rattle.std.proofs.lemmas.List.Sums.{sum_by-cons}
 use Rattle.std.proofs.lemmas.Simd.{map-map}
 use Rattle.std.proofs.lemmas.List.Elements.{All-head, All-tail}
-use Rattle.document_edits.proofs.PlacesLemmas.{root-place}
 use Rattle.document_edits.specs.Targets.{places_of}
 use Rattle.ft_base.specs.Lists.{is_empty}
 use Rattle.ordered_tree.specs.Numbered.{Numbered, plain, reference}
@@ -16,8 +15,8 @@ use Rattle.path_nodes.specs.References.{element_of, IsElement}
 use Rattle.plain_tree.specs.declared.place.How.{How}
 use Rattle.plain_tree.specs.declared.tree.Tree.{Tree}
 use Rattle.command_replies.specs.declared.reply.Refusal.TheVariants as refusal
-use Rattle.tree_edits.specs.Edits.{is_among}
-use Rattle.tree_edits.specs.steps.Acts.{stays}
+use Rattle.tree_edits.specs.Edits.{is_among, is_same}
+use Rattle.tree_edits.specs.Acts.{stays}
 use Rattle.ft_base.specs.declared.memory.Memory.{Memory}
 use Rattle.session_state.specs.declared.targets.Chosen.{Chosen}
 use Rattle.session_state.specs.declared.edit.Targets.{Targets}
@@ -89,11 +88,12 @@ led-here says abbreviations path name document refs there elements leads = recor
       ∙ sym (ap (λ t. cond t (map (λ (e : Element). e.place) (planned_in says abbreviations path (plain document.tree.root))) []) leads));
 }
 
--- the root is among elements where one of their places is empty
-pub root-among : (root : Numbered) (refs : List NodeRef) → All (IsElement root) refs → is_among refs (reference root) ≡ list_any is_empty (places_of root refs)
-root-among root [] there = refl
-root-among root (r ∷ rs) there =
-    ap₂ (λ a b. a || b) (sym (root-place root r (All-head (IsElement root) r rs there))) (root-among root rs (All-tail (IsElement root) r rs there))
+-- the root is among elements where one of their places is empty, by the law that it alone has the empty place
+module _ (root-place : (root : Numbered) (r : NodeRef) → IsElement root r → is_empty (element_of root r).place ≡ is_same (reference root) r) where
+  pub root-among : (root : Numbered) (refs : List NodeRef) → All (IsElement root) refs → is_among refs (reference root) ≡ list_any is_empty (places_of root refs)
+  root-among root [] there = refl
+  root-among root (r ∷ rs) there =
+      ap₂ (λ a b. a || b) (sym (root-place root r (All-head (IsElement root) r rs there))) (root-among root rs (All-tail (IsElement root) r rs there))
 
 -- there are as many places as references
 pub as-many-targets : (trees : List (ℕ × Numbered)) (refs : List (List NodeRef)) → AreTargets trees refs → sum_by length refs ≡ target_count (places_of_targets trees refs)

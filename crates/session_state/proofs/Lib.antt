@@ -1,6 +1,8 @@
 pub mod ChosenLemmas
 pub mod EditLemmas
+pub mod IgnoredLemmas
 pub mod KnownLemmas
+pub mod LeftLemmas
 pub mod MarkLemmas
 pub mod MarkedLemmas
 pub mod MarkedTokens

@@ -1,8 +1,9 @@
 -- The lines by the plans of a path are those by its selections, and where nothing else is refused the reply is theirs.
-use Rattle.std.proofs.Common.{◌≡◌, ◌∙◌, sym, ap, refl, ℕ, ◌+◌, ◌<◌, ◌≤◌, Bool, true, false, cond, List, [], ◌∷◌, length, map, drop, get_or, arith}
+use Rattle.std.proofs.Common.{◌≡◌, ◌∙◌, sym, ap, refl, ℕ, zero, suc, ◌+◌, ◌<◌, ◌≤◌, Bool, true, false, cond, List, [], ◌∷◌, ◌++◌, length, map, drop, get_or, append_assoc, arith}
 use Rattle.std.specs.Prelude.{Option, Some, None, Result, Ok, Err, IfOk, flat_map, option_map, option_and_then, sum_by}
 use Rattle.std.specs.List.{slice_get}
-use Rattle.std.proofs.lemmas.List.{at_drop_more, drop_all}
+use Rattle.std.proofs.Math.ListN.{get_or-map}
+use Rattle.std.proofs.lemmas.List.{at_drop_more, drop_all, length-map}
 use Rattle.std.proofs.lemmas.Option.{same_Some, slice_get-map}
 use Rattle.best_hits.specs.Showable.{can_show}
 use Rattle.collections.specs.Indexed.{Indexed}
@@ -150,7 +151,7 @@ lines-in-turn abbreviations lists form name root found =
     elements (r ∷ rs) = ap (λ rest. element_line name (plain root) (element_of root r) ∷ words_line abbreviations lists form root r ∷ rest) (elements rs)
 
 -- the items of a number come next
-pub next-in-turn : {X : Type 0} (xs ys : List X) (k : ℕ) (x y : X) → k < length xs → length ys ≡ length xs → x ≡ get_or xs k x → y ≡ get_or ys k y
+next-in-turn : {X : Type 0} (xs ys : List X) (k : ℕ) (x y : X) → k < length xs → length ys ≡ length xs → x ≡ get_or xs k x → y ≡ get_or ys k y
     → in_turn (drop k xs) (drop k ys) ≡ x ∷ y ∷ in_turn (drop (k + 1) xs) (drop (k + 1) ys)
 unfolding in_turn
 next-in-turn xs ys k x y less as_many first second =
@@ -162,3 +163,24 @@ next-in-turn xs ys k x y less as_many first second =
 pub none-in-turn : {X : Type 0} (xs ys : List X) (k : ℕ) → length xs ≤ k → in_turn (drop k xs) (drop k ys) ≡ []
 unfolding in_turn
 none-in-turn xs ys k past = ap (λ rest. in_turn rest (drop k ys)) (drop_all k xs past)
+
+-- one more of each stands after the lines so far
+pub more-in-turn : {X N : Type 0} (line : N → X) (names : List X) (found : List N) (k : ℕ) (name : X) (node other : N) (before named after whole : List X)
+    → length names ≡ length found → k < length found → name ≡ get_or names k name → node ≡ get_or found k other
+    → before ++ in_turn (drop k names) (drop k (map line found)) ≡ whole → named ≡ before ++ name ∷ [] → after ≡ named ++ line node ∷ []
+    → after ++ in_turn (drop (k + 1) names) (drop (k + 1) (map line found)) ≡ whole
+more-in-turn line names found k name node other before named after whole as_many less is_name is_node known put then =
+    let rest = in_turn (drop (k + 1) names) (drop (k + 1) (map line found)) in
+    let size = length-map found line in
+    let there : k < length (map line found) = omega (arith, less, size) in
+    let item : line node ≡ get_or (map line found) k (line node) =
+    ap line is_node ∙ (sym (get_or-map line found k other) ∙ get_or-any (map line found) k (line other) (line node) there) in
+    ap (λ ls. ls ++ rest) (then ∙ (ap (λ ls. ls ++ line node ∷ []) put ∙ append_assoc before (name ∷ []) (line node ∷ [])))
+    ∙ (append_assoc before (name ∷ line node ∷ []) rest
+    ∙ (ap (λ ls. before ++ ls) (sym (next-in-turn names (map line found) k name (line node) (omega (arith, less, as_many)) (size ∙ sym as_many) is_name item))
+    ∙ known))
+  where
+    get_or-any : {Y : Type 0} (xs : List Y) (k : ℕ) (x y : Y) → k < length xs → get_or xs k x ≡ get_or xs k y
+    get_or-any [] k x y h = absurd (omega (arith, h))
+    get_or-any (z ∷ xs) zero x y h = refl
+    get_or-any (z ∷ xs) (suc k) x y h = get_or-any xs k x y (omega (arith, h))

@@ -17,14 +17,14 @@ use Rattle.ft_base.specs.declared.fault.QueryFault.{QueryFault}
 use Rattle.ft_base.specs.declared.ids.NodeRef.{NodeRef}
 use Rattle.path_meaning.specs.Collection.{Named, documents}
 use Rattle.path_meaning.specs.Elements.{Element}
-use Rattle.path_grammar.specs.Form.{Steps, no_steps, step_then, Step, step, Predicates, no_predicates, predicate_then, Predicate, number, holds, Condition, or_of, and_of, not_of, attribute, exists, contains, Conditions, no_conditions, condition_then}
+use Rattle.path_grammar.specs.Form.{Steps, no_steps, step_then, Step, step, Predicates, no_predicates, predicate_then, Predicate, number, holds, Condition, or_of, and_of, not_of, attribute, exists, contains, Conditions, no_conditions, condition_then, Paths, no_paths, path_then}
 use Rattle.path_grammar.specs.Form as form
 use Rattle.path_grammar.specs.View as view
 use Rattle.path_grammar.specs.declared.path.PathRoot.{PathRoot}
 use Rattle.path_grammar.specs.declared.path.PathRoot.TheVariants.{Doc}
 use Rattle.path_meaning.specs.Meaning.{selected}
 use Rattle.path_meaning.specs.Tests.{selected_tests}
-use Rattle.path_nodes.specs.Asked.{OfEach, OfStep, OfPredicates, OfPredicate, OfCondition, OfConditions}
+use Rattle.path_nodes.specs.Asked.{OfEach, OfStep, OfPredicates, OfPredicate, OfCondition, OfConditions, OfPaths}
 use Rattle.path_nodes.specs.Prices.{total_price}
 use Rattle.path_nodes.specs.References.{element_of}
 use Rattle.path_subset.specs.Paths.{PathForm, PlacedForm, read_form}
@@ -62,12 +62,13 @@ missing-document root name documents there is has = ap (λ r. missing_document r
 pub planned-as : (says : Judgement) (abbreviations : List (List ℕ)) (lists : NamedLists) (plans : List PlanOf) (forms : List Form) → map meant plans ≡ map (under lists) forms
     → is_meant says abbreviations (map meant plans) ≡ satisfies says abbreviations lists forms
 unfolding is_meant satisfies
-planned-as says abbreviations lists plans forms same = ap (is_meant says abbreviations) same ∙ (λ i k e. by forms k e i)
+planned-as says abbreviations lists plans forms same = ap (is_meant says abbreviations) same ∙ (λ i k ignored e. by forms k ignored e i)
   where
-    by : (forms : List Form) (k : ℕ) (e : Element) → is_meant says abbreviations (map (under lists) forms) k e ≡ satisfies says abbreviations lists forms k e
-    by [] k e = refl
-    by (form ∷ forms) zero e = refl
-    by (form ∷ forms) (suc k) e = by forms k e
+    by : (forms : List Form) (k : ℕ) (ignored : List Element) (e : Element)
+        → is_meant says abbreviations (map (under lists) forms) k ignored e ≡ satisfies says abbreviations lists forms k ignored e
+    by [] k ignored e = refl
+    by (form ∷ forms) zero ignored e = refl
+    by (form ∷ forms) (suc k) ignored e = by forms k ignored e
 
 -- the runs of plans
 pub runs-meant : (version : List indexed.Numbered) (plans : List PlanOf) → map run_meant (map (run_over version) plans) ≡ map meant plans
@@ -75,7 +76,7 @@ runs-meant version plans = map-map run_meant (run_over version) plans
 
 -- what holds of each number for which steps ask, and is more than something else
 mutual
-  unfolding OfEach OfStep OfPredicates OfPredicate OfCondition OfConditions
+  unfolding OfEach OfStep OfPredicates OfPredicate OfCondition OfConditions OfPaths
 
   pub asked-weaker : (P R : ℕ → Type 0) → ((k : ℕ) → P k → R k) → (s : Steps) → OfEach P s → OfEach R s
   asked-weaker P R w no_steps h = tt
@@ -98,11 +99,15 @@ mutual
   condition-weaker P R w (not_of c) h = condition-weaker P R w c h
   condition-weaker P R w (attribute name value) h = tt
   condition-weaker P R w (exists s) h = asked-weaker P R w s h
-  condition-weaker P R w (contains s k) h = (asked-weaker P R w s h.0, w k h.1)
+  condition-weaker P R w (contains s k paths) h = (asked-weaker P R w s h.0, w k h.1, paths-weaker P R w paths h.2)
 
   conditions-weaker : (P R : ℕ → Type 0) → ((k : ℕ) → P k → R k) → (cs : Conditions) → OfConditions P cs → OfConditions R cs
   conditions-weaker P R w no_conditions h = tt
   conditions-weaker P R w (condition_then c rest) h = (condition-weaker P R w c h.0, conditions-weaker P R w rest h.1)
+
+  paths-weaker : (P R : ℕ → Type 0) → ((k : ℕ) → P k → R k) → (paths : Paths) → OfPaths P paths → OfPaths R paths
+  paths-weaker P R w no_paths h = tt
+  paths-weaker P R w (path_then path rest) h = (asked-weaker P R w path h.0, paths-weaker P R w rest h.1)
 
 -- a selection among others, and the lists that it names
 module _ (forms : List Form) (k : ℕ) (form : Form) (within : k < length forms) (is : form ≡ get_or forms k form) where

@@ -8,13 +8,14 @@ use Rattle.counted_shapes.specs.Accepted.{is_accepted}
 use Rattle.allowed_selections.proofs.Allowed.{selects_accepted}
 use Rattle.path_grammar.specs.Form as form
 use Rattle.path_grammar.specs.Form.{joined, or_of, and_of}
-use Rattle.path_grammar.specs.Grammar.{Inside, Step, Steps, Predicate, Predicates, Ors, Ands, Primary, Rel, Path}
+use Rattle.path_grammar.specs.Grammar as grammar
+use Rattle.path_grammar.specs.Grammar.{Inside, Step, Steps, Predicate, Predicates, Ors, Ands, Primary, Rel, Rels, Path}
 use Rattle.selection_grammar.specs.declared.symbol.Placed.{Placed}
 use Rattle.path_subset.specs.Answer.{path_read}
 use Rattle.path_subset.specs.Paths.{PathForm, PlacedForm, placed_form}
 use Rattle.path_subset.specs.Spelled.{Each}
 use Rattle.path_subset.proofs.Spelled.{spelled}
-use Rattle.path_nodes.specs.Asked.{OfEach, OfStep, OfPredicates, OfPredicate, OfCondition, OfConditions}
+use Rattle.path_nodes.specs.Asked.{OfEach, OfStep, OfPredicates, OfPredicate, OfCondition, OfConditions, OfPaths}
 use Rattle.session_state.specs.Paths.{selections_of}
 
 -- one more after a list
@@ -34,6 +35,11 @@ module _ (P : ℕ → Type 0) where
   one_more_condition [] x h i = (i, h)
   one_more_condition (y ∷ xs) x h i = (h.0, one_more_condition xs x h.1 i)
 
+  one_more_path : (xs : List form.Steps) (x : form.Steps) → OfPaths P (form.paths xs) → OfEach P x → OfPaths P (form.paths (xs ++ x ∷ []))
+  unfolding OfPaths
+  one_more_path [] x h i = (i, h)
+  one_more_path (y ∷ xs) x h i = (h.0, one_more_path xs x h.1 i)
+
   joined_or : (xs : List form.Condition) → OfConditions P (form.conditions xs) → OfCondition P (joined or_of xs)
   unfolding OfCondition OfConditions
   joined_or [] h = h
@@ -49,7 +55,7 @@ module _ (P : ℕ → Type 0) where
 -- Something holds of each number below a count, and the selections are numbered below it.
 module _ (P : ℕ → Type 0) (count : ℕ) (below : (k : ℕ) → k < count → P k) where
   mutual
-    unfolding OfEach OfStep OfPredicates OfPredicate OfCondition OfConditions
+    unfolding OfEach OfStep OfPredicates OfPredicate OfCondition OfConditions OfPaths
 
     of_step : {n : ℕ} {u : List Placed} {x : form.Step} {ss : List Inside} → Step n u x ss → n + length ss ≤ count → OfStep P x
     of_step (Step.step slashes test ps) few = of_predicates ps few
@@ -85,7 +91,16 @@ module _ (P : ℕ → Type 0) (count : ℕ) (below : (k : ℕ) → k < count →
     of_primary (Primary.valued p q r t s value) few = tt
     of_primary (Primary.exists rel) few = of_rel rel few
     of_primary (Primary.contains {n = n} {v = v} {ss = ss} {x = x} rel p q selection) few =
-        (of_rel rel (omega (arith, few, length-append ss (record { symbols = v; tree = x } ∷ []))), below (n + length ss) (omega (arith, few, length-append ss (record { symbols = v; tree = x } ∷ []))))
+        (of_rel rel (omega (arith, few, length-append ss (record { symbols = v; tree = x } ∷ []))), below (n + length ss) (omega (arith, few, length-append ss (record { symbols = v; tree = x } ∷ []))), tt)
+    of_primary (Primary.without {n = n} {v = v} {ss = ss} {tt = more} {x = x} rel p q selection r t rels) few =
+        let first = length-append ss (grammar.inside v x ∷ []) in
+        let all = length-append (ss ++ grammar.inside v x ∷ []) more in
+        (of_rel rel (omega (arith, few, all, first)), below (n + length ss) (omega (arith, few, all, first)), of_rels rels (omega (arith, few, all)))
+
+    of_rels : {n : ℕ} {u : List Placed} {ys : List form.Steps} {ss : List Inside} → Rels n u ys ss → n + length ss ≤ count → OfPaths P (form.paths ys)
+    of_rels (Rels.first_rel rel) few = (of_rel rel few, tt)
+    of_rels (Rels.further_rel {ys = ys} {xs = xs} {ss = ss} {tt = more} before p rel) few =
+        one_more_path P ys (form.steps xs) (of_rels before (omega (arith, few, length-append ss more))) (of_rel rel (omega (arith, few, length-append ss more)))
 
     of_rel : {n : ℕ} {u : List Placed} {xs : List form.Step} {ss : List Inside} → Rel n u xs ss → n + length ss ≤ count → OfEach P (form.steps xs)
     of_rel (Rel.itself p xs) few = of_steps xs few

@@ -32,11 +32,12 @@ use Rattle.plan_runs.specs.RunMeaning.{RunMeaning}
 use Rattle.kept_plans.specs.PlanOf.{PlanOf}
 use Rattle.tokenizer.proofs.PartsLemmas.{words-tokens}
 use Rattle.tokenizer.specs.Tokens.{tokens}
+use Rattle.session_state.specs.IgnoredText.{tokens_left}
 use Rattle.session_state.specs.PathPrices.{are_cheap, element_price, words_of as element_words}
 use Rattle.session_state.specs.PlannedPaths.{is_meant, meant, run_meant, run_over, run_price}
 use Rattle.session_state.specs.SelectionTests.{asked_of, is_there, may_ask, span_among, span_at, AreOver, AreOverEach}
 use Rattle.collections.specs.Indexed.{FollowsEach}
-use Rattle.session_state.proofs.TextLemmas.{tokens-at-span}
+use Rattle.session_state.proofs.TextLemmas.{nothing-ignored, tokens-at-span}
 
 -- the node that a reference names
 pub record Node (root : Numbered) (r : NodeRef) : Type 0 where
@@ -129,12 +130,17 @@ as-many plans runs same = sym (length-map plans meant) ∙ (ap length (sym same)
 
 -- ---- the run of a number
 
-pub met-at : (says : Judgement) (abbreviations : List (List ℕ)) (runs : List RunMeaning) (k : ℕ) (run : RunMeaning) (e : Element) → k < length runs → get_or runs k run ≡ run
-    → is_meant says abbreviations (map run_meant runs) k e ≡ says run.form run.lists (tokens abbreviations e.node)
+pub met-left : (says : Judgement) (abbreviations : List (List ℕ)) (runs : List RunMeaning) (k : ℕ) (run : RunMeaning) (ignored : List Element) (e : Element) → k < length runs
+    → get_or runs k run ≡ run → is_meant says abbreviations (map run_meant runs) k ignored e ≡ says run.form run.lists (tokens_left abbreviations ignored e)
 unfolding is_meant
-met-at says abbreviations [] k run e more is = absurd (omega (arith, more))
-met-at says abbreviations (r ∷ runs) zero run e more is = ap (λ q. says q.form q.lists (tokens abbreviations e.node)) is
-met-at says abbreviations (r ∷ runs) (suc k) run e more is = met-at says abbreviations runs k run e (omega (arith, more)) is
+met-left says abbreviations [] k run ignored e more is = absurd (omega (arith, more))
+met-left says abbreviations (r ∷ runs) zero run ignored e more is = ap (λ q. says q.form q.lists (tokens_left abbreviations ignored e)) is
+met-left says abbreviations (r ∷ runs) (suc k) run ignored e more is = met-left says abbreviations runs k run ignored e (omega (arith, more)) is
+
+pub met-at : (says : Judgement) (abbreviations : List (List ℕ)) (runs : List RunMeaning) (k : ℕ) (run : RunMeaning) (e : Element) → k < length runs → get_or runs k run ≡ run
+    → is_meant says abbreviations (map run_meant runs) k [] e ≡ says run.form run.lists (tokens abbreviations e.node)
+met-at says abbreviations runs k run e more is =
+    met-left says abbreviations runs k run [] e more is ∙ ap (says run.form run.lists) (nothing-ignored abbreviations e)
 
 pub priced-at : (runs : List RunMeaning) (k : ℕ) (run : RunMeaning) (e : Element) → k < length runs → get_or runs k run ≡ run
     → element_price (map run_price runs) k e ≡ run_price run (element_words e)
@@ -209,7 +215,7 @@ pub skipped : (says : Judgement) (abbreviations : List (List ℕ)) (runs : List 
     → ((at : Span) → (1 ≤ at.from) × (at.from ≤ at.to) × (at.to ≤ token_count (document_at doc run.version) + 1)
     → from ≤ at.from → at.to ≤ to → says run.form run.lists (span_tokens at (document_at doc run.version)) ≡ false)
     → (r : NodeRef) → IsTrue (may_ask runs root k r) → from ≤ (span_at root r).from → (span_at root r).to ≤ to
-    → is_meant says abbreviations (map run_meant runs) k (element_of root r) ≡ false
+    → is_meant says abbreviations (map run_meant runs) k [] (element_of root r) ≡ false
 skipped says abbreviations runs root k run doc from to is over none r asked suffix ahead =
     let n = asked-node runs root k r asked in
     let among = spot-stand root n.spot n.among in

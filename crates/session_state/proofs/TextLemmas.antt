@@ -1,8 +1,8 @@
 -- The document that follows a tree under abbreviations has the tree's tokens under them as its text, and at the span of a node the node's own tokens.
-use Rattle.std.proofs.Common.{◌≡◌, ◌∙◌, sym, ap, refl, subst, ℕ, zero, suc, ◌+◌, ◌-◌, ◌<◌, ◌≤◌, ◌==◌, Bool, true, false, if◌then◌else◌, List, [], ◌∷◌, ◌++◌, length, map, get_or, zero-add, arith}
+use Rattle.std.proofs.Common.{◌≡◌, ◌∙◌, sym, ap, refl, subst, ℕ, zero, suc, ◌+◌, ◌-◌, ◌<◌, ◌≤◌, ◌==◌, Bool, true, false, ◌&&◌, if◌then◌else◌, List, [], ◌∷◌, ◌++◌, length, map, get_or, zero-add, arith}
 use Rattle.std.specs.Prelude.{⊤, nat_le}
 use Rattle.std.specs.List.{All}
-use Rattle.std.proofs.lemmas.Bool.{cond-false, cond-true, le-leb, lt-leb}
+use Rattle.std.proofs.lemmas.Bool.{and_from, cond-false, cond-true, eq-eqb, le-leb, lt-leb, or_left, or_right}
 use Rattle.std.proofs.lemmas.Bool.Decides.{nat_tests}
 use Rattle.std.proofs.lemmas.List.Elements.{All-cons, All-drop, All-nil, All-take}
 use Rattle.ft_base.specs.declared.span.Span.{Span}
@@ -10,6 +10,8 @@ use Rattle.ft_base.specs.declared.token.Token.{Token}
 use Rattle.all_matches.specs.Hits.{paragraph_at, sentence_at}
 use Rattle.all_matches.specs.Spans as spans
 use Rattle.all_matches.specs.Spans.{in_span}
+use Rattle.ignore_view.specs.Without.{are_counted, are_counted_after, counted, follows_on}
+use Rattle.ignore_view.proofs.CountedLemmas.{kept-none, same-counted}
 use Rattle.index_cursors.specs.SpanHits.{started}
 use Rattle.index_cursors.proofs.AscendingLemmas.{passing, passing-count}
 use Rattle.index_meaning.specs.Documents as indexed
@@ -20,6 +22,8 @@ use Rattle.index_updates.specs.Follows.{Follows, tree_document}
 use Rattle.index_updates.proofs.WordsLemmas.{words-tree}
 use Rattle.ordered_tree.specs.Numbered.{Numbered, plain}
 use Rattle.ordered_tree.specs.Part.{counted_from, part, renumbered}
+use Rattle.path_meaning.specs.Elements.{Element}
+use Rattle.session_state.specs.IgnoredText.{tokens_left}
 use Rattle.tokenizer.proofs.PartsLemmas.{words-tokens}
 use Rattle.tokenizer.specs.Gaps.{gap, ends_paragraph, ends_sentence}
 use Rattle.tokenizer.specs.Parts.{Part, word, gap_characters, gap_tag, parts}
@@ -210,3 +214,32 @@ pub tokens-at-span : (abbreviations : List (List ℕ)) (version : List indexed.N
     → Follows abbreviations version doc root → IsSpan at (document_at doc version) → part (tokens abbreviations (plain root)) at ≡ ts → span_tokens at (document_at doc version) ≡ ts
 tokens-at-span abbreviations version doc root at ts follows inside is =
     ap (span_tokens at) follows.document ∙ tokens-of-span abbreviations root at (subst (IsSpan at) follows.document inside) ∙ is
+
+-- ---- where nothing is ignored, all tokens are left
+
+follows-shifted : (ended : Bool) (n : ℕ) → follows_on n (shifted ended n) ≡ true
+follows-shifted true n = or_right (n + 1 == n) (n + 1 == n + 1) (eq-eqb (n + 1) (n + 1) refl)
+follows-shifted false n = or_left (n == n) (n == n + 1) (eq-eqb n n refl)
+
+counted-after : (xs : List Part) (s p : ℕ) (before : Token) → follows_on before.sentence s ≡ true → follows_on before.paragraph p ≡ true
+    → are_counted_after before (tokens_from s p xs) ≡ true
+unfolding tokens_from
+counted-after [] s p before hs hp = refl
+counted-after (word bytes ∷ xs) s p before hs hp =
+    and_from (follows_on before.sentence s && follows_on before.paragraph p) _ (and_from (follows_on before.sentence s) (follows_on before.paragraph p) hs hp)
+    (counted-after xs _ _ (record { word = bytes; sentence = s; paragraph = p }) (follows-shifted (ends_sentence (gap xs)) s) (follows-shifted (ends_paragraph (gap xs)) p))
+counted-after (gap_characters bytes ∷ xs) s p before hs hp = counted-after xs s p before hs hp
+counted-after (gap_tag name ∷ xs) s p before hs hp = counted-after xs s p before hs hp
+
+are-counted-from : (xs : List Part) → are_counted (tokens_from 1 1 xs) ≡ true
+unfolding tokens_from
+are-counted-from [] = refl
+are-counted-from (word bytes ∷ xs) =
+    counted-after xs _ _ (record { word = bytes; sentence = 1; paragraph = 1 }) (follows-shifted (ends_sentence (gap xs)) 1) (follows-shifted (ends_paragraph (gap xs)) 1)
+are-counted-from (gap_characters bytes ∷ xs) = are-counted-from xs
+are-counted-from (gap_tag name ∷ xs) = are-counted-from xs
+
+pub nothing-ignored : (abbreviations : List (List ℕ)) (e : Element) → tokens_left abbreviations [] e ≡ tokens abbreviations e.node
+unfolding tokens
+nothing-ignored abbreviations e =
+    ap counted (kept-none 1 (tokens abbreviations e.node)) ∙ same-counted (tokens abbreviations e.node) (are-counted-from (parts abbreviations e.node))

@@ -19,7 +19,7 @@ use Rattle.command_replies.specs.declared.reply.Refusal.{Refusal}
 use Rattle.command_replies.specs.declared.reply.Refusal.TheVariants as refusal
 use Rattle.command_replies.specs.declared.reply.Reply.{Reply}
 use Rattle.command_replies.specs.declared.reply.Reply.TheVariants.{Refused}
-use Rattle.tree_edits.specs.steps.Acts.{stays}
+use Rattle.tree_edits.specs.Acts.{stays}
 use Rattle.session_state.specs.declared.edit.Targets.{Targets}
 use Rattle.session_state.specs.declared.edit.Targets.TheVariants.{One, Any}
 use Rattle.session_state.specs.DocumentReplies.{edit_refusal, replied_by}

@@ -2,6 +2,7 @@ pub mod State
 pub mod StateView
 pub mod Held
 pub mod Abbreviations
+pub mod IgnoredText
 pub mod Paths
 pub mod PathPrices
 pub mod PlannedPaths

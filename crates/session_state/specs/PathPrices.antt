@@ -1,4 +1,5 @@
 -- How far cursors may move by which a path of cheap selections is answered: the prices of the tests for which it asks, over the version of the index.
+-- That counts the cursors over the index. What is left of an element where others are ignored is a view of its own, whose cursors aren't among them.
 use Rattle.std.specs.Prelude.{ℕ, zero, suc, Bool, true, if◌then◌else◌, List, [], ◌∷◌, map, Option, Some, None, Result, Ok, Err}
 use Rattle.std.specs.List.{list_all, sum_by}
 use Rattle.ft_base.specs.Selection.{Form}

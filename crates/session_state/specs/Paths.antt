@@ -19,10 +19,10 @@ use Rattle.command_replies.specs.declared.reply.Refusal.TheVariants as refusal
 use Rattle.command_replies.specs.declared.reply.Reply.{Reply}
 use Rattle.command_replies.specs.declared.reply.Reply.TheVariants as reply
 use Rattle.command_replies.specs.declared.reply.Reply.TheVariants.{Refused}
-use Rattle.tokenizer.specs.Tokens.{tokens}
 use Rattle.session_state.specs.declared.shown.Shown.{Shown}
 use Rattle.session_state.specs.declared.shown.Shown.TheVariants.{Names, Texts}
 use Rattle.collections.specs.Documents.{has_name}
+use Rattle.session_state.specs.IgnoredText.{tokens_left}
 use Rattle.session_state.specs.State.{State}
 
 -- ---- which elements are selected
@@ -31,12 +31,12 @@ use Rattle.session_state.specs.State.{State}
 abbrev pub selections_of : PathForm → List Form
 selections_of p = map (λ s. s.form) p.selections
 
--- whether an element's tokens under the abbreviations satisfy the selection of that number, under these lists. They don't satisfy one that
--- isn't there
-unfoldable pub satisfies : Judgement → List (List ℕ) → NamedLists → List Form → ℕ → Element → Bool
-satisfies says abbreviations lists [] k e = false
-satisfies says abbreviations lists (first ∷ rest) zero e = says first lists (tokens abbreviations e.node)
-satisfies says abbreviations lists (first ∷ rest) (suc k) e = satisfies says abbreviations lists rest k e
+-- whether an element's tokens under the abbreviations, without those of the elements that are ignored, satisfy the selection of that number,
+-- under these lists. They don't satisfy one that isn't there
+unfoldable pub satisfies : Judgement → List (List ℕ) → NamedLists → List Form → ℕ → List Element → Element → Bool
+satisfies says abbreviations lists [] k ignored e = false
+satisfies says abbreviations lists (first ∷ rest) zero ignored e = says first lists (tokens_left abbreviations ignored e)
+satisfies says abbreviations lists (first ∷ rest) (suc k) ignored e = satisfies says abbreviations lists rest k ignored e
 
 -- the elements of a document that a path selects
 abbrev pub selected_in : Judgement → List (List ℕ) → NamedLists → PathForm → Node → List Element

@@ -19,7 +19,7 @@ use Rattle.plan_compiler.specs.Lexicon.{lexicon}
 use Rattle.plan_compiler.specs.NamedLists.{NamedLists}
 use Rattle.plan_runs.specs.RunPrice.{price}
 use Rattle.plan_runs.specs.RunMeaning.{RunMeaning}
-use Rattle.tokenizer.specs.Tokens.{tokens}
+use Rattle.session_state.specs.IgnoredText.{tokens_left}
 use Rattle.session_state.specs.KeptTexts.{text_at}
 use Rattle.session_state.specs.PathPrices.{are_cheap, element_price}
 use Rattle.session_state.specs.Paths.{lines_of, selections_of}
@@ -70,11 +70,12 @@ AreRunsOf path runs = map run_meant runs ≡ map meant path.plans.now
 abbrev pub has_cheap_plans : PlannedPath → Bool
 has_cheap_plans path = are_cheap (map meant path.plans.now)
 
--- whether an element's tokens under the abbreviations satisfy the selection of that number, under its lists
-unfoldable pub is_meant : Judgement → List (List ℕ) → List (NamedLists × Form) → ℕ → Element → Bool
-is_meant says abbreviations [] k e = false
-is_meant says abbreviations (first ∷ rest) zero e = says first.1 first.0 (tokens abbreviations e.node)
-is_meant says abbreviations (first ∷ rest) (suc k) e = is_meant says abbreviations rest k e
+-- whether an element's tokens under the abbreviations, without those of the elements that are ignored, satisfy the selection of that number,
+-- under its lists
+unfoldable pub is_meant : Judgement → List (List ℕ) → List (NamedLists × Form) → ℕ → List Element → Element → Bool
+is_meant says abbreviations [] k ignored e = false
+is_meant says abbreviations (first ∷ rest) zero ignored e = says first.1 first.0 (tokens_left abbreviations ignored e)
+is_meant says abbreviations (first ∷ rest) (suc k) ignored e = is_meant says abbreviations rest k ignored e
 
 -- the elements of a document to which the steps lead
 abbrev pub planned_in : Judgement → List (List ℕ) → PlannedPath → Node → List Element

@@ -2,7 +2,7 @@
 use Rattle.std.specs.Prelude.{List, [], ◌∷◌, map, codes}
 use Rattle.ft_base.specs.Selection.{Form}
 use Rattle.index_meaning.specs.Documents.{Numbered}
-use Rattle.path_grammar.specs.Form.{Step, contains, holds, no_steps, steps}
+use Rattle.path_grammar.specs.Form.{Step, contains, holds, no_paths, no_steps, steps}
 use Rattle.path_grammar.specs.Spellings.{below}
 use Rattle.path_grammar.specs.declared.path.PathRoot.{PathRoot}
 use Rattle.path_meaning.specs.Elements.{Element, placed}
@@ -22,10 +22,10 @@ with_selections root path forms = record {
 
 -- `//b[. contains text ..]`, and the same with a further predicate: the selections are those of the numbers 0 and 1
 abbrev pub first_asked : List Step
-first_asked = below (codes "b") (holds (contains no_steps 0) ∷ []) ∷ []
+first_asked = below (codes "b") (holds (contains no_steps 0 no_paths) ∷ []) ∷ []
 
 abbrev pub both_asked : List Step
-both_asked = below (codes "b") (holds (contains no_steps 0) ∷ holds (contains no_steps 1) ∷ []) ∷ []
+both_asked = below (codes "b") (holds (contains no_steps 0 no_paths) ∷ holds (contains no_steps 1 no_paths) ∷ []) ∷ []
 
 -- the elements named `b` of `letters`
 abbrev pub named_b : List Element

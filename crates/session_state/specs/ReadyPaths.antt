@@ -2,7 +2,7 @@
 use Rattle.std.specs.Prelude.{◌≡◌, ℕ, if◌then◌else◌, List, length, Option, Some, None, Result, Ok, Err, ⊤}
 use Rattle.ft_base.specs.declared.fault.QueryFault.{QueryFault}
 use Rattle.kept_plans.specs.Preparation.{Preparation, with_kept}
-use Rattle.kept_plans.specs.steps.Next.{IsNext}
+use Rattle.kept_plans.specs.Next.{IsNext}
 use Rattle.path_meaning.specs.Collection.{Named}
 use Rattle.path_subset.specs.Answer.{path_read}
 use Rattle.path_subset.specs.Paths.{PathForm, read_form}

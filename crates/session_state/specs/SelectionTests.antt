@@ -33,12 +33,12 @@ may_ask runs root k r = nat_lt k (length runs) && is_there root r
 abbrev pub where_cheap : List RunMeaning → ℕ → ℕ
 where_cheap runs count = cond (are_cheap (map run_meant runs)) count 0
 
--- It is said whether the element that the reference names satisfies the selection, for the price of the run at its words where all
--- selections are cheap. The runs and a count of steps are lent, under these names.
+-- It is said whether the element that the reference names satisfies the selection, without what the ignored ones hold of it, for the price
+-- of the run at its words where all selections are cheap. The runs and a count of steps are lent, under these names.
 abbrev pub asked_of : Judgement → List (List ℕ) → List RunMeaning → Numbered → ℕ → ℕ → Meaning
 asked_of says abbreviations runs root runs_loan moves_loan = record {
   may_ask = may_ask runs root;
-  says = λ k r. is_meant says abbreviations (map run_meant runs) k (element_of root r);
+  says = λ k ignored r. is_meant says abbreviations (map run_meant runs) k (map (element_of root) ignored) (element_of root r);
   price = λ k r. where_cheap runs (element_price (map run_price runs) k (element_of root r));
   span = span_at root;
   lent = runs_loan ∷ moves_loan ∷ [];

@@ -4,11 +4,11 @@ use Rattle.std.specs.Coded.{Coded, code_by, coded×, coded_list, coded_ℕ}
 use Rattle.collections.specs.StoredIndexed.{document_code}
 use Rattle.index_meaning.specs.Documents.{Numbered}
 use Rattle.kept_plans.specs.Kept.{Kept}
-use Rattle.kept_plans.specs.steps.Codes.{kept_code}
+use Rattle.kept_plans.specs.Codes.{kept_code}
 use Rattle.path_meaning.specs.Collection.{Named}
 use Rattle.plan_compiler.specs.NamedLists.{NamedLists}
-use Rattle.plan_compiler.specs.steps.FormCode.{bytes_code, lists_code}
-use Rattle.plan_runs.specs.steps.RunCode.{numbered_code}
+use Rattle.plan_compiler.specs.FormCode.{bytes_code, lists_code}
+use Rattle.plan_runs.specs.RunCode.{numbered_code}
 use Rattle.standing_queries.specs.Answers.{Answers}
 use Rattle.session_state.specs.Held.{Held}
 use Rattle.session_state.specs.State.{Mark, State, Watch}

@@ -4,12 +4,15 @@ ghost use Rattle.std.specs.Prelude.{◌≡◌, ◌≤◌, ℕ, List};
 ghost use Rattle.plan_runs.specs.RunMeaning.{RunMeaning};
 ghost use Rattle.session_state.specs.SelectionTests.{AreOver};
 
+use crate::text_left::{judge_left, left_of, spans_of};
 use ft_base::{DocId, Memory, Steps};
 use ordered_tree::{DocTree, NodeRef};
-use path_nodes::TextTest;
+use path_nodes::{HoleTest, Nodes, TextTest};
 use plan_runs::{Judge, Run};
+use std::alloc::Global;
 use std::marker::{Brand, PhantomData};
-use std::sync::ledger::Ledger;
+use std::mem::drop;
+use std::sync::ledger::{Blank, Ledger};
 
 /// The abbreviations under which elements are asked. The index keeps where their sentences end, so that proofs alone see them.
 pub(crate) trait Abbreviated {
@@ -45,6 +48,7 @@ impl Loan for Brand {
 /// Asks a judge, with the runs of a path's selections, each by its number, of the nodes of a document.
 #[derive(Drop)]
 pub(crate) struct SelectionTest<'j, 't, 'r, 'v, 'm, J: Judge, B: Loan, M: Ledger> {
+    pub(crate) alloc: Global,
     pub(crate) judge: &'j J,
     /// The document's number in the version of the runs
     pub(crate) doc: DocId,
@@ -78,6 +82,42 @@ impl<'j, 't, 'r, 'v, 'm, J: Judge, B: Loan, M: Ledger> TextTest
             return 0;
         }
         self.judge.skip_to(&runs[selection], self.doc, from)
+    }
+}
+
+impl<'j, 't, 'r, 'v, 'm, J: Judge, B: Loan, M: Ledger> HoleTest
+    for SelectionTest<'j, 't, 'r, 'v, 'm, J, B, M> {
+    fn contains_without(
+        &mut self,
+        selection: usize,
+        node: NodeRef,
+        holes: &Nodes,
+    ) -> Result<bool, Memory> {
+        if holes.is_empty() {
+            return self.contains(selection, node);
+        }
+        let part = self.tree.span_of(node);
+        let spans = spans_of(self.alloc, self.tree, holes)?;
+        let runs = &mut *self.runs;
+        let run = &mut runs[selection];
+        let view = left_of::<Brand>(
+            self.alloc,
+            run.version(),
+            self.doc,
+            part,
+            &spans,
+            Blank::new(1),
+        )?;
+        let judged = judge_left::<J, Brand>(
+            self.alloc,
+            self.judge,
+            run,
+            self.doc,
+            &view,
+            Blank::new(1),
+        );
+        drop(view);
+        judged
     }
 }
 

@@ -10,7 +10,7 @@ ghost use Rattle.session_state.specs.PlannedPaths.{prices_in, run_over, HasItsPl
 ghost use Rattle.session_state.specs.steps.Chosen.{edit_of, planned_places};
 ghost use Rattle.command_replies.specs.Replies.{is_refusal};
 ghost use Rattle.stamped_documents.specs.Stamps.{restamped};
-ghost use Rattle.tree_edits.specs.steps.Acts.{stays as does_stay};
+ghost use Rattle.tree_edits.specs.Acts.{stays as does_stay};
 
 use crate::asked_runs::Abbreviated;
 use crate::edit::{Edit, Targets};

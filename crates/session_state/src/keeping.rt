@@ -3,7 +3,7 @@
 ghost use Rattle.std.specs.Prelude.{◌≡◌, if◌then◌else◌, IfOk, OnErr};
 ghost use Rattle.kept_plans.specs.Kept.{all_used};
 ghost use Rattle.kept_plans.specs.Preparation.{texts_of, with_kept};
-ghost use Rattle.kept_plans.specs.steps.Next.{IsNext};
+ghost use Rattle.kept_plans.specs.Next.{IsNext};
 ghost use Rattle.session_state.specs.KeptTexts.{kept_by};
 
 use crate::paths::ReadyPath;

@@ -20,6 +20,7 @@ mod session;
 mod shown;
 mod stats;
 mod targets;
+mod text_left;
 mod turns;
 mod watches;
 mod watching;

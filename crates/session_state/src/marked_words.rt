@@ -25,8 +25,9 @@ use crate::selected::select;
 use crate::targets::leads_through;
 use collections::{Collection, Documents, Loaded};
 use command_replies::{Refusal, Reply};
-use element_lines::{push_marked, push_names};
+use element_lines::{Marking, push_names};
 use ft_base::{DocId, Line, Memory, Steps};
+use index_versions::Version;
 use kept_plans::{KeptPlan, Prepared};
 use match_marks::{Marks, can_show};
 use ordered_tree::{DocTree, NodeRef};
@@ -156,6 +157,7 @@ fn lines_with<J: Judge, A: Abbreviated, M: Ledger>(
         judge,
         documents,
         path,
+        collection.version(),
         marks,
         runs.as_mut_slice(),
         moves,
@@ -164,12 +166,21 @@ fn lines_with<J: Judge, A: Abbreviated, M: Ledger>(
     lines
 }
 
+/// The memory in which the lines of words are made, one element after the other.
+#[derive(Drop)]
+struct Room<'v> {
+    /// The words of the element, as the version has them.
+    words: Vec<&'v str>,
+    marking: Marking,
+}
+
 /// The lines of all documents, in their order. The runs are those of the path's plans, and they and the marks are over a version that follows
 /// the documents.
-fn collect_marked<J: Judge, A: Abbreviated, M: Ledger>(
+fn collect_marked<'v, J: Judge, A: Abbreviated, M: Ledger>(
     judge: &J,
     documents: &Documents,
     path: &PlannedPath<'_>,
+    version: &'v Version,
     marks: &mut Marks<'_>,
     runs: &mut [Run<'_>],
     moves: &mut Steps<M>,
@@ -178,6 +189,7 @@ fn collect_marked<J: Judge, A: Abbreviated, M: Ledger>(
     requires runs { AreRunsOf path.now runs.old }
     requires over { AreOverEach A.abbreviations runs.old (trees_of documents.now) }
     requires marks { AreOverEach A.abbreviations (marks.old ∷ []) (trees_of documents.now) }
+    requires version { version.now ≡ marks.old.version }
     ensures lines { IfOk result (λ lines. lines
         ≡ flat_map (marked_through J.says A.abbreviations path.now marks.old.lists marks.old.form) (map to_document documents.now)) }
     ensures moves { moves.old ≤ moves.new }
@@ -185,27 +197,36 @@ fn collect_marked<J: Judge, A: Abbreviated, M: Ledger>(
         → moves.new ≤ moves.old + prices_through J.says A.abbreviations path.now runs.old (map to_document documents.now) }
 {
     let mut lines = TextList::new(path.alloc);
+    let mut room = Room {
+        words: Vec::new(path.alloc),
+        marking: Marking::new(path.alloc),
+    };
     for (name, document) in documents.iter() {
-        push_document::<J, A, M>(judge, name, document, path, marks, runs, moves, &mut lines)?;
+        push_document::<J, A, M>(
+            judge, name, document, path, version, marks, runs, moves, &mut room, &mut lines,
+        )?;
     }
     Ok(lines)
 }
 
 /// Puts the lines of one document to the end; there are none where the path doesn't lead through the document.
-fn push_document<J: Judge, A: Abbreviated, M: Ledger>(
+fn push_document<'v, J: Judge, A: Abbreviated, M: Ledger>(
     judge: &J,
     name: &Line,
     document: &Loaded,
     path: &PlannedPath<'_>,
+    version: &'v Version,
     marks: &mut Marks<'_>,
     runs: &mut [Run<'_>],
     moves: &mut Steps<M>,
+    room: &mut Room<'v>,
     lines: &mut TextList,
 ) -> Result<(), Memory>
     requires plans { HasItsPlans path.now }
     requires runs { AreRunsOf path.now runs.old }
     requires over { AreOver A.abbreviations runs.old (document.now.doc.0, document.now.tree.root) }
     requires marks { AreOver A.abbreviations (marks.old ∷ []) (document.now.doc.0, document.now.tree.root) }
+    requires version { version.now ≡ marks.old.version }
     ensures lines { OnOk result (lines.new
         ≡ lines.old
         ++ marked_through J.says A.abbreviations path.now marks.old.lists marks.old.form (to_document (name.now, document.now))) }
@@ -223,23 +244,28 @@ fn push_document<J: Judge, A: Abbreviated, M: Ledger>(
         path.alloc,
         name.as_str(),
         document,
+        version,
         marks,
         found.as_slice(),
+        room,
         lines,
     )
 }
 
 /// Puts the lines of these elements to the end: for each the line that names it, and that of its words.
-fn push_found<A: Abbreviated>(
+fn push_found<'v, A: Abbreviated>(
     alloc: Global,
     name: &str,
     document: &Loaded,
+    version: &'v Version,
     marks: &mut Marks<'_>,
     found: &[NodeRef],
+    room: &mut Room<'v>,
     lines: &mut TextList,
 ) -> Result<(), Memory>
     requires there { All (IsElement document.now.tree.root) found.now }
     requires marks { AreOver A.abbreviations (marks.old ∷ []) (document.now.doc.0, document.now.tree.root) }
+    requires version { version.now ≡ marks.old.version }
     ensures lines { OnOk result (lines.new
         ≡ lines.old
         ++ flat_map (spec.marked_lines A.abbreviations marks.old.lists marks.old.form name.now (plain document.now.tree.root))
@@ -249,60 +275,69 @@ fn push_found<A: Abbreviated>(
     let tree = document.tree();
     let mut names = TextList::new(alloc);
     push_names(alloc, name, tree, found, &mut names)?;
-    let mut words = TextList::new(alloc);
-    push_words::<A>(alloc, document.doc(), tree, marks, found, &mut words)?;
-    put_in_turn(&names, &words, lines)
+    push_each::<A>(
+        alloc,
+        &names,
+        document.doc(),
+        tree,
+        version,
+        marks,
+        found,
+        room,
+        lines,
+    )
 }
 
-/// Puts the lines of the words of these elements to the end.
-fn push_words<A: Abbreviated>(
+/// Puts a line of the first list and the line of an element's words to the end, for each of these elements.
+fn push_each<'v, A: Abbreviated>(
     alloc: Global,
+    names: &TextList,
     doc: DocId,
     tree: &DocTree,
+    version: &'v Version,
     marks: &mut Marks<'_>,
     found: &[NodeRef],
+    room: &mut Room<'v>,
     lines: &mut TextList,
 ) -> Result<(), Memory>
+    requires names { length names.now ≡ length found.now }
     requires there { All (IsElement tree.now.root) found.now }
     requires marks { AreOver A.abbreviations (marks.old ∷ []) (doc.0, tree.now.root) }
-    ensures lines { OnOk result (lines.new ≡ lines.old ++ map (words_line A.abbreviations marks.old.lists marks.old.form tree.now.root) found.now) }
+    requires version { version.now ≡ marks.old.version }
+    ensures lines { OnOk result (lines.new
+        ≡ lines.old ++ in_turn names.now (map (words_line A.abbreviations marks.old.lists marks.old.form tree.now.root) found.now)) }
     ensures marks { marks.new ≡ marks.old }
 {
-    for node in found {
-        push_line::<A>(alloc, doc, tree, marks, *node, lines)?;
+    for number in 0..found.len() {
+        lines.push(names.get(number))?;
+        push_line::<A>(alloc, doc, tree, version, marks, found[number], room, lines)?;
     }
     Ok(())
 }
 
 /// Puts the line of an element's words to the end.
-fn push_line<A: Abbreviated>(
+fn push_line<'v, A: Abbreviated>(
     alloc: Global,
     doc: DocId,
     tree: &DocTree,
+    version: &'v Version,
     marks: &mut Marks<'_>,
     node: NodeRef,
+    room: &mut Room<'v>,
     lines: &mut TextList,
 ) -> Result<(), Memory>
     requires there { IsElement tree.now.root node }
     requires marks { AreOver A.abbreviations (marks.old ∷ []) (doc.0, tree.now.root) }
+    requires version { version.now ≡ marks.old.version }
     ensures lines { OnOk result (lines.new ≡ lines.old ++ words_line A.abbreviations marks.old.lists marks.old.form tree.now.root node ∷ []) }
     ensures marks { marks.new ≡ marks.old }
 {
+    let Room { words, marking } = room;
     let span = tree.span_of(node);
+    words.clear();
+    version.lend_words(doc, span, words)?;
     match marks.best(alloc, doc, span)? {
-        Some(spans) => push_marked(alloc, tree, node, spans.as_slice(), lines),
-        None => push_marked(alloc, tree, node, &[], lines),
+        Some(spans) => marking.push_line(words.as_slice(), spans.as_slice(), lines),
+        None => marking.push_line(words.as_slice(), &[], lines),
     }
-}
-
-/// Puts the lines of two lists that are as long as each other to the end, one of each in turn.
-fn put_in_turn(first: &TextList, second: &TextList, lines: &mut TextList) -> Result<(), Memory>
-    requires { length second.now ≡ length first.now }
-    ensures { OnOk result (lines.new ≡ lines.old ++ in_turn first.now second.now) }
-{
-    for number in 0..first.len() {
-        lines.push(first.get(number))?;
-        lines.push(second.get(number))?;
-    }
-    Ok(())
 }

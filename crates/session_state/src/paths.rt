@@ -6,7 +6,7 @@ ghost use Rattle.std.specs.Option.{option_copied};
 ghost use Rattle.counted_shapes.specs.Accepted.{is_accepted};
 ghost use Rattle.collections.specs.Loaded.{to_document};
 ghost use Rattle.kept_plans.specs.Preparation.{CanKeep};
-ghost use Rattle.kept_plans.specs.steps.Next.{IsNext};
+ghost use Rattle.kept_plans.specs.Next.{IsNext};
 ghost use Rattle.path_grammar.specs.Form as form;
 ghost use Rattle.path_grammar.specs.View.{step};
 ghost use Rattle.path_meaning.specs.Collection.{documents as documents_of};

@@ -18,7 +18,7 @@ use element_lines::{push_names, push_printed};
 use ft_base::{Line, Memory, Steps};
 use ordered_tree::NodeRef;
 use path_grammar::PathRoot;
-use path_nodes::nodes;
+use path_nodes::nodes_without;
 use plan_runs::{Judge, Run};
 use std::alloc::Global;
 use std::marker::{Brand, PhantomData};
@@ -219,6 +219,7 @@ fn select_with<J: Judge, B: Loan, M: Ledger>(
     let tree = document.tree();
     let _root = tree.root();
     let mut test = SelectionTest::<'_, '_, '_, '_, '_, J, B, M> {
+        alloc: path.alloc,
         judge,
         doc: document.doc(),
         tree,
@@ -226,5 +227,5 @@ fn select_with<J: Judge, B: Loan, M: Ledger>(
         moves,
         loan: PhantomData,
     };
-    nodes(path.alloc, path.steps, tree, &mut test)
+    nodes_without(path.alloc, path.steps, tree, &mut test)
 }

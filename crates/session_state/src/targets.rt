@@ -16,6 +16,7 @@ use crate::asked_runs::Abbreviated;
 use crate::planned::PlannedPath;
 use crate::selected::select;
 use collections::{Documents, Loaded};
+use document_edits::laws::root_place_law;
 use ft_base::{Items, Line, Memory, Steps};
 use ordered_tree::{NodeRef, NodeRefs};
 use path_grammar::PathRoot;
@@ -120,6 +121,7 @@ fn has_the_root(document: &Loaded, refs: &NodeRefs) -> bool
     requires { All (IsElement document.now.tree.root) refs.now }
     ensures { result ≡ list_any is_empty (places_of document.now.tree.root refs.now) }
 {
+    root_place_law();
     is_among(refs, document.tree().root())
 }
 

@@ -3,6 +3,7 @@
 
 ghost use Rattle.std.specs.Prelude.{◌≡◌, ◌∷◌, [], ℕ, List, codes, false, true, Ok, Err};
 ghost use Rattle.ft_base.specs.Selection.{Form};
+ghost use Rattle.ignore_view.specs.Without.{without};
 ghost use Rattle.kept_plans.specs.Kept.{Kept};
 ghost use Rattle.path_meaning.specs.Collection.{Named};
 ghost use Rattle.path_meaning.specs.Elements.{Element};
@@ -14,6 +15,7 @@ ghost use Rattle.command_replies.specs.declared.reply.Reply.TheVariants as reply
 ghost use Rattle.tokenizer.specs.Tokens.{tokens};
 ghost use Rattle.word_lists.specs.KeySets.{key_set_of};
 ghost use Rattle.session_state.specs.Abbreviations.{abbreviations_put};
+ghost use Rattle.session_state.specs.IgnoredText.{ignored_places};
 ghost use Rattle.session_state.specs.Marks.{at_mark, marked};
 ghost use Rattle.session_state.specs.Paths.{satisfies};
 ghost use Rattle.session_state.specs.State.{Mark, State, Watch};
@@ -42,10 +44,10 @@ pub fn abbreviations_at_marks()
         → at_mark state (record { name = name; documents = ds; abbreviations = keys }) ≡ record state { documents = ds; abbreviations = keys } }
 {}
 
-/// What is asked of an element is asked of its tokens under the abbreviations.
+/// What is asked of an element is asked of its tokens under the abbreviations, without those of the elements that are ignored.
 pub fn elements_under_abbreviations()
-    ensures second { (says : Judgement) (keys : List (List ℕ)) (lists : NamedLists) (f g : Form) (e : Element)
-        → satisfies says keys lists (f ∷ g ∷ []) 1 e ≡ says g lists (tokens keys e.node) }
+    ensures second { (says : Judgement) (keys : List (List ℕ)) (lists : NamedLists) (f g : Form) (ignored e : Element)
+        → satisfies says keys lists (f ∷ g ∷ []) 1 (ignored ∷ []) e ≡ says g lists (without (tokens keys e.node) (ignored_places e ignored ∷ [])) }
     ensures after { (says : Judgement) (keys : List (List ℕ)) (lists : NamedLists) (f : Form) (e : Element)
-        → satisfies says keys lists (f ∷ []) 1 e ≡ false }
+        → satisfies says keys lists (f ∷ []) 1 [] e ≡ false }
 {}

@@ -5,11 +5,13 @@ plan_compiler::specs::CheapSelections::is_cheap_under,
 // where steps lead
 path_meaning::specs::Meaning::stepped, path_meaning::specs::Meaning::led,
 // what predicates keep
-path_meaning::specs::Meaning::filtered, path_meaning::specs::Meaning::filtered_by, path_meaning::specs::Meaning::is_true, crate::specs::Paths::satisfies,
+path_meaning::specs::Meaning::filtered, path_meaning::specs::Meaning::filtered_by, path_meaning::specs::Meaning::is_true, path_meaning::specs::Meaning::ignored,
+// what satisfies a selection
+crate::specs::Paths::satisfies,
 // what steps ask
 path_meaning::specs::Tests::step_tests, path_meaning::specs::Tests::steps_tests, path_meaning::specs::Tests::selected_tests,
 // what predicates ask
-path_meaning::specs::Tests::predicates_tests, path_meaning::specs::Tests::predicate_tests, path_meaning::specs::Tests::condition_tests))]
+path_meaning::specs::Tests::predicates_tests, path_meaning::specs::Tests::predicate_tests, path_meaning::specs::Tests::condition_tests, path_meaning::specs::Tests::ignored_tests))]
 
 ghost use Rattle.std.specs.Prelude.{◌≡◌, ◌∷◌, [], ℕ, List, codes, false, true, Ok, Err};
 ghost use Rattle.std.specs.List.{sum_by};

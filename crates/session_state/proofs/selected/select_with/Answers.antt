@@ -13,8 +13,8 @@ use Rattle.session_state.proofs.PathLemmas.{asked-weaker}
 use Rattle.session_state.proofs.SelectionTestLemmas.{as-many, may-asked, moves-loan, runs-loan}
 use Rattle.session_state.proofs.selected.select_with.Goals as goal
 
-pub nodes-requires-clause-asked : goal.nodes-requires-clause-asked
-nodes-requires-clause-asked g c =
+pub nodes_without-requires-clause-asked : goal.nodes_without-requires-clause-asked
+nodes_without-requires-clause-asked g c =
     let root = c.tree-tree.result.now.root in
     let runs = g.B.Loan.runs in
     let count = as-many c.args.path.now.plans.now c.args.runs.now c.requires.runs ∙ ap length c.requires.lent_runs in
@@ -23,12 +23,12 @@ nodes-requires-clause-asked g c =
 
 pub returns-clause-runs : goal.returns-clause-runs
 returns-clause-runs g c =
-    let same = runs-loan g.J.Judge.says g.B.Loan.abbreviations g.B.Loan.runs _ _ _ _ _ _ c.nodes.ensures.meaning in
+    let same = runs-loan g.J.Judge.says g.B.Loan.abbreviations g.B.Loan.runs _ _ _ _ _ _ c.nodes_without.ensures.meaning in
     search rules
 
 pub returns-clause-moves : goal.returns-clause-moves
 returns-clause-moves g c =
-    let same = moves-loan g.J.Judge.says g.B.Loan.abbreviations g.B.Loan.runs _ _ _ _ _ _ c.nodes.ensures.meaning in
+    let same = moves-loan g.J.Judge.says g.B.Loan.abbreviations g.B.Loan.runs _ _ _ _ _ _ c.nodes_without.ensures.meaning in
     search rules
 
 pub returns-clause-price : goal.returns-clause-price
@@ -43,8 +43,8 @@ returns-clause-price g c cheap =
     let all : are_cheap (map run_meant runs) ≡ true = ap are_cheap meant_same ∙ cheap in
     let prices = element_price (map run_price runs) in
     let counted : (n : ℕ) → where_cheap runs n ≡ n = λ n. ap (λ b. cond b n 0) all in
-    let bound = rw all at (c.nodes.ensures.costs (is_meant says abbreviations plans) prices (λ k r e. ap (λ ms. is_meant says abbreviations ms k (element_of root r)) meant_same) (λ k r e. counted (prices k (element_of root r)))) in
+    let bound = rw all at (c.nodes_without.ensures.costs (is_meant says abbreviations plans) prices (λ k ignored r all e. ap (λ ms. is_meant says abbreviations ms k (map (element_of root) ignored) (element_of root r)) meant_same) (λ k r e. counted (prices k (element_of root r)))) in
     let there = ap (λ t. planned_price says abbreviations path runs (plain t.root)) c.tree-tree.ensures.tree in
     let lent = ap (λ rs. planned_price says abbreviations path rs (plain c.args.document.now.tree.root)) c.requires.lent_runs in
-    let same = moves-loan says abbreviations runs _ _ _ _ _ _ c.nodes.ensures.meaning in
+    let same = moves-loan says abbreviations runs _ _ _ _ _ _ c.nodes_without.ensures.meaning in
     search rules

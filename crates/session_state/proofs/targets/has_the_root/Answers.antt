@@ -10,4 +10,4 @@ pub returns : goal.returns
 returns c =
     c.is_among.ensures
     ∙ (ap (is_among c.args.refs.now) (c.root.ensures.root ∙ ap (λ (t : Stored). reference t.root) c.tree.ensures.tree)
-    ∙ root-among c.args.document.now.tree.root c.args.refs.now c.requires)
+    ∙ root-among c.root_place_law.ensures c.args.document.now.tree.root c.args.refs.now c.requires)
