@@ -10,6 +10,8 @@ import re
 import sys
 import unicodedata
 
+from grammar import PATHS, syntax_fault
+
 MOST_LINE = 65_536
 MOST_BLOCK = 67_108_864
 MARK = b"\xef\xbb\xbf"
@@ -214,13 +216,15 @@ def bad_line(block):
 
 class Engine:
     """Answers commands over documents that are one element a: `load`, `drop`, `stop`, `abbreviations`, `stems`, marks, and `query`, `print`, `show`
-    and `watch` of `doc("NAME")/a` and of `collection()/a`, this one also cut off somewhere; `show` also of those of them that have one string. What a
-    block has that isn't such a document is no document; where its fault is, isn't known here. The lines of stems aren't looked at."""
+    and `watch` of `doc("NAME")/a` and of `collection()/a`, or of what is no path; of those of them that have one string too, with paths behind `without
+    content` or without. What a block has that isn't such a document is no document; where its fault is, isn't known here. The lines of stems aren't
+    looked at."""
 
     DOCUMENT = re.compile(r"[ \t\r\n]*(?:<a>([^<>&]*)</a>|<a/>)[ \t\r\n]*")
     PATH = "collection()/a"
     ONE = re.compile(r"""doc\((?:"((?:[^"]|"")*)"|'((?:[^']|'')*)')\)/a(?:\[1\])?""")
-    WITH_STRING = re.compile(r'(.*)\[\. contains text "([^"]*)"\]')
+    WITH_STRING = re.compile(r'(.*)\[\. contains text "([^"]*)"( without content .*)?\]')
+    GRAMMAR = PATHS
     UNKNOWN = "! 6 document: .."
     MOST_WATCHES = 64
 
@@ -299,16 +303,20 @@ class Engine:
 
     def _shown(self, path):
         told = self.WITH_STRING.fullmatch(path)
-        first, *names = self._found("query", told[1] if told else path, self.documents)
+        first, *names = self._found("query", path, self.documents)
         if first.startswith("! "):
             return [first]
-        if not told:
+        if not told or told[3]:
             return ["! 15 nothing to show"]
         documents = {'doc("' + name.replace('"', '""') + '")/a[1]': text for name, text in self.documents.items()}
-        pairs = [(name, words) for name in names if (words := marked(documents[name], told[2])) is not None]
-        return [f"= {len(pairs)}", *(line for pair in pairs for line in pair)]
+        return [first, *(line for name in names for line in (name, marked(documents[name], told[2])))]
 
     def _found(self, word, path, documents):
+        fault = syntax_fault(path, self.GRAMMAR)
+        if fault is not None:
+            return [f"! 7 query: syntax at {fault}"]
+        told = self.WITH_STRING.fullmatch(path)
+        path = told[1] if told else path
         one = self.ONE.fullmatch(path)
         if one:
             name = one[2].replace("''", "'") if one[1] is None else one[1].replace('""', '"')
@@ -316,7 +324,11 @@ class Engine:
                 return [f"! 8 no such document: {name}"]
             documents = {name: documents[name]}
         elif path != self.PATH:
-            return [f"! 7 query: syntax at {len(path) if path.startswith('collection') else 0}"]
+            raise ValueError(f"not known here: {path}")
+        if told:
+            # Of an element without children only a period selects something, which is all of it.
+            nothing = re.search(r"content[ \t]*\.[ \t]*(?:$|\|)|\|[ \t]*\.[ \t]*(?:$|\|)", told[3] or "")
+            documents = {name: text for name, text in documents.items() if not nothing and marked(text, told[2]) is not None}
         if word == "query":
             lines = ['doc("' + name.replace('"', '""') + '")/a[1]' for name in documents]
         else:

@@ -2,16 +2,17 @@
 use crate::texts::joined;
 use ft_base::Memory;
 use ft_syntax::print_selection;
-use path_grammar::{Condition, NameTest, PathRoot, Predicate, Step, Steps};
+use path_grammar::{Condition, NameTest, PathRoot, Predicate, RelativePaths, Step, Steps};
 use path_subset::{ReadPath, read_path};
 use std::alloc::Global;
 use std::process::Abort;
 use std::test::Fail;
 
-/// A path, and a list of what it has: its root, and for each step its slashes, its name and its predicates.
+/// A path, and a list of what it has: its root, for each step its slashes, its name and its predicates, and whether some text in it is
+/// asked for without content.
 type FormRow = (&'static str, &'static str);
 
-const FORMS: [FormRow; 23] = [
+const FORMS: [FormRow; 26] = [
     ("collection()//b[2]", "collection //b [2]"),
     (r#"doc("x")/a"#, "doc x /a"),
     (r#"doc("")/x-1"#, "doc  /x-1"),
@@ -42,6 +43,18 @@ const FORMS: [FormRow; 23] = [
     (
         r#"collection()/a[. contains text "x"]"#,
         "collection /a [contains .]",
+    ),
+    (
+        r#"collection()/a[. contains text "x" without content b/c | . | not and d]"#,
+        "collection /a [and] without content",
+    ),
+    (
+        r#"collection()/a[. contains text "x" without content b/c | . | not]"#,
+        "collection /a [contains . without b without . without not] without content",
+    ),
+    (
+        r#"collection()/a[without[content contains text "x" without content b]]"#,
+        "collection /a [exists without] without content",
     ),
     ("collection()/a[x-1]", "collection /a [exists x-1]"),
     ("collection()/a[not]", "collection /a [exists not]"),
@@ -77,6 +90,15 @@ fn first_name(steps: &Steps) -> &str {
     step_name(steps.get(0))
 }
 
+/// Adds the name with which each of the ignored paths begins.
+fn add_ignored(text: &mut String, ignored: &RelativePaths) -> Result<(), Memory> {
+    for path in ignored.as_slice() {
+        text.push_str(" without ")?;
+        text.push_str(first_name(&path.steps))?;
+    }
+    Ok(())
+}
+
 /// Adds what kind of condition this is, with the name with which it begins.
 fn add_condition(text: &mut String, condition: &Condition) -> Result<(), Memory> {
     match condition {
@@ -95,9 +117,10 @@ fn add_condition(text: &mut String, condition: &Condition) -> Result<(), Memory>
             text.push_str("exists ")?;
             text.push_str(first_name(steps))?;
         }
-        Condition::Contains { steps, .. } => {
+        Condition::Contains { steps, ignored, .. } => {
             text.push_str("contains ")?;
             text.push_str(first_name(steps))?;
+            add_ignored(text, ignored)?;
         }
     }
     Ok(())
@@ -131,6 +154,9 @@ fn form_of(alloc: Global, path: &ReadPath) -> Result<String, Memory> {
     for step in path.steps().as_slice() {
         add_step(&mut text, step)?;
     }
+    if path.has_without() {
+        text.push_str(" without content")?;
+    }
     Ok(text)
 }
 
@@ -161,7 +187,7 @@ fn roots_steps_and_predicates_are_read(rt: HostRuntime) -> Result<(), Fail> {
 /// A path, how many selections it has, the number of one of them, its printed form, and where it begins and ends.
 type SelectionRow = (&'static str, usize, usize, &'static str, usize, usize);
 
-const SELECTIONS: [SelectionRow; 6] = [
+const SELECTIONS: [SelectionRow; 9] = [
     (
         r#"collection()/a[c/b contains text "x y" and not(@k)]"#,
         1,
@@ -209,6 +235,30 @@ const SELECTIONS: [SelectionRow; 6] = [
         r#""b""#,
         52,
         55,
+    ),
+    (
+        r#"collection()/a[. contains text "a" occurs at least 2 times without content b]"#,
+        1,
+        0,
+        r#""a" occurs at least 2 times"#,
+        31,
+        58,
+    ),
+    (
+        r#"collection()/a[. contains text "a" without content b[c contains text "w"]]"#,
+        2,
+        0,
+        r#""a""#,
+        31,
+        34,
+    ),
+    (
+        r#"collection()/a[. contains text "a" without content b[c contains text "w"]]"#,
+        2,
+        1,
+        r#""w""#,
+        69,
+        72,
     ),
 ];
 

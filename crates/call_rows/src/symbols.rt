@@ -8,7 +8,7 @@ use std::test::Fail;
 /// A text, the place from which it is read, its symbols with their places, and the place of the character that begins none.
 type SymbolRow = (&'static str, usize, &'static str, Option<usize>);
 
-const ROWS: [SymbolRow; 6] = [
+const ROWS: [SymbolRow; 7] = [
     (
         "doc('l''été')\t// été.1[ 0002 ]",
         0,
@@ -19,6 +19,12 @@ const ROWS: [SymbolRow; 6] = [
     ("é 'b", 0, "0-2 name é, ", Some(3)),
     ("[1000001x]", 0, "0-1 mark, ", Some(1)),
     ("", 0, "", None),
+    (
+        "a|b '|'",
+        0,
+        "0-1 name a, 1-2 mark, 2-3 name b, 4-7 text |, ",
+        None,
+    ),
     ("é[ab 'é' ?", 3, "3-5 name ab, 6-10 text é, ", Some(11)),
 ];
 

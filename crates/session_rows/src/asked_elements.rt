@@ -7,15 +7,15 @@ use crate::elements::{LETTERS, NESTED};
 use doc_profile::read_doc;
 use ft_base::Memory;
 use ordered_tree::{DocTree, NodeRef, load_doc};
-use path_nodes::{TextTest, nodes};
-use path_subset::read_path;
+use path_nodes::{HoleTest, Nodes, TextTest, nodes, nodes_without};
+use path_subset::{ReadPath, read_path};
 use std::alloc::Global;
 use std::process::Abort;
 use std::test::Fail;
 use word_lists::KeySet;
 
 /// A test of the nodes of a document that is true of those of these numbers, except for the selections that no node satisfies, for which
-/// all may be skipped. It counts how often it is asked; each time costs 1.
+/// all may be skipped, and except for nodes that are ignored themselves. It counts how often it is asked; each time costs 1.
 #[derive(Drop)]
 pub(crate) struct Judge<'t> {
     pub(crate) tree: &'t DocTree,
@@ -31,7 +31,8 @@ impl<'t> TextTest for Judge<'t> {
 
     ghost meaning = { λ test. record {
       may_ask = λ selection r. true;
-      says = λ selection r. not (list_any (λ n. n == selection) test.unsatisfied.now) && list_any (λ n. n == r.0) test.nodes.now;
+      says = λ selection ignored r. not (list_any (λ hole. hole.0 == r.0) ignored)
+          && (not (list_any (λ n. n == selection) test.unsatisfied.now) && list_any (λ n. n == r.0) test.nodes.now);
       price = λ selection r. 1;
       span = span_at test.tree.now.root;
       lent = [];
@@ -50,6 +51,18 @@ impl<'t> TextTest for Judge<'t> {
         } else {
             0
         }
+    }
+}
+
+impl<'t> HoleTest for Judge<'t> {
+    fn contains_without(
+        &mut self,
+        selection: usize,
+        node: NodeRef,
+        holes: &Nodes,
+    ) -> Result<bool, Memory> {
+        let is = self.contains(selection, node)?;
+        Ok(!holes.as_slice().contains(&node) && is)
     }
 }
 
@@ -72,11 +85,23 @@ pub(crate) fn led(alloc: Global, path: &str, test: &mut Judge<'_>) -> Result<Vec
     requires { is_element test.old.tree.now.root ≡ true }
     ensures { IfOk result (λ found. All (IsElement test.old.tree.now.root) found.items) }
 {
-    let tree = test.tree;
     match read_path(alloc, path) {
-        Ok(path) => Ok(nodes(alloc, path.steps(), tree, test)?),
+        Ok(path) => Ok(led_by(alloc, &path, test)?),
         Err(_) => Err(Fail::from("no path")),
     }
+}
+
+/// The same of a path that was read, by the call for paths of its kind.
+fn led_by(alloc: Global, path: &ReadPath, test: &mut Judge<'_>) -> Result<Vec<NodeRef>, Memory>
+    requires { is_element test.old.tree.now.root ≡ true }
+    ensures { IfOk result (λ found. All (IsElement test.old.tree.now.root) found.items) }
+{
+    let tree = test.tree;
+    let steps = path.steps();
+    if path.has_without() {
+        return nodes_without(alloc, steps, tree, test);
+    }
+    nodes(alloc, steps, tree, test)
 }
 
 /// A document, a path, the nodes of which the test of text is true, the nodes to which the path leads, and how often the test is asked.

@@ -38,6 +38,8 @@ mod filtered_choices;
 #[cfg(test)]
 mod filters;
 #[cfg(test)]
+mod ignored;
+#[cfg(test)]
 mod judges;
 #[cfg(test)]
 mod library;
