@@ -21,6 +21,7 @@ pytest.importorskip("rich")
 pytest.importorskip("prompt_toolkit")
 
 from conftest import TOP  # noqa: E402
+from lxml import etree  # noqa: E402
 
 Ask = Callable[..., "subprocess.CompletedProcess[str]"]
 STORM = 'collection()//p[. contains text "storm"]'
@@ -75,16 +76,41 @@ def test_an_element_without_text_shows_its_attributes(ask: Ask, tmp_path: Path) 
     assert ran.stdout == f'{tmp_path}/codes.xml:2  doc("codes.xml")/codes[1]/code[1]\n    @alpha="DE" @name="Germany"\n'
 
 
+def test_answers_are_a_page_that_is_xml(ask: Ask, tmp_path: Path) -> None:
+    name = "a & b's <\u00e9>.xml"
+    (tmp_path / name).write_text("<a>\n<p>one &lt;storm> &amp;\nstorm</p><p n='\"1\"'/><p>x</p></a>")
+    path = 'collection()//p[. contains text "storm" or @n]'
+    ran = ask(tmp_path, "--query", path, "--query", "collection()/b", "--query", "collection()//p[", "--format", "xml", "--whole", "--limit", 2)
+    root = etree.fromstring(ran.stdout.encode())
+    space = {"h": "http://www.w3.org/1999/xhtml"}
+    assert root.xpath("//h:h1/h:code/text()", namespaces=space) == [path, "collection()/b"] and "syntax" in ran.stderr and ran.returncode == 2
+    assert root.xpath("//h:p[@class = 'count']/text()", namespaces=space) == ["2 elements", "0 elements"]
+    one, two = root.xpath("//h:li", namespaces=space)
+    assert dict(one.attrib) == {"data-document": name, "data-file": str(tmp_path / name), "data-line": "2", "data-marked-line": "2"}
+    assert "".join(one.xpath("h:p[@class = 'text']//text()", namespaces=space)) == "one <storm> &\nstorm"
+    assert one.xpath("h:p/h:mark/text()", namespaces=space) == ["storm", "storm"] and two.xpath("string(h:p[2])", namespaces=space) == '@n=""1""'
+    assert one.xpath("string(.//h:a/@href)", namespaces=space) == (tmp_path / name).as_uri()
+    assert one.xpath("string(.//h:a)", namespaces=space) == f"{tmp_path / name}:2"
+    assert root.xpath("//h:p[@class = 'hint']/text()", namespaces=space)[-1].startswith("no document has an element b")
+    none = ask(tmp_path, "--query", "collection()//p[", "--format", "xml")
+    assert etree.fromstring(none.stdout.encode()).xpath("count(//h:section)", namespaces=space) == 0
+    assert etree.fromstring(ask(tmp_path, "--query", path, "--offset", 1, "--format", "xml").stdout.encode()).xpath("string(//h:ol/@start)", namespaces=space) == "2"
+
+
 def test_files_are_read_by_how_they_begin_and_others_are_counted(ask: Ask, tmp_path: Path) -> None:
     files = {"a.page": "<page>storm</page>", "b.docbook": "<?xml version='1.0'?><book>storm</book>", "c.txt": "storm", "d.html": "<!doctype html>"}
     for name, text in files.items():
         (tmp_path / name).write_text(text)
     ran = ask(tmp_path, "--query", 'collection()/*[. contains text "storm"]', "--format", "paths")
     assert ran.stdout.splitlines() == ['doc("a.page")/page[1]', 'doc("b.docbook")/book[1]']
-    assert ran.stderr == "ask: 2 files passed over: 1 don't begin as XML documents do (.txt 1), 1 are HTML (.html 1)\n" and ran.returncode == 0
+    said = "ask: 2 files passed over: 1 doesn't begin as an XML document does (.txt 1), 1 is HTML (.html 1)"
+    assert ran.stderr == f"{said}; --verbose names them\n" and ran.returncode == 0
     ran = ask(tmp_path, "--query", "collection()/*", "--format", "paths", "--glob", "*.page")
     assert ran.stdout.splitlines() == ['doc("a.page")/page[1]']
-    assert ran.stderr == "ask: 3 files passed over: 3 aren't named by --glob (.docbook 1, .txt 1, .html 1)\n"
+    assert ran.stderr == "ask: 3 files passed over: 3 aren't named by --glob (.docbook 1, .txt 1, .html 1); --verbose names them\n"
+    ran = ask(tmp_path, "--query", "collection()/*", "--count", "--verbose")
+    reasons = [f"{tmp_path}/c.txt: passed over, since it doesn't begin as an XML document does", f"{tmp_path}/d.html: passed over, since it is HTML"]
+    assert ran.stdout == "2\n" and ran.stderr == "".join(f"ask: {line}\n" for line in [said.removeprefix("ask: "), *reasons])
 
 
 def test_an_included_element_has_its_own_file_and_line(ask: Ask, tmp_path: Path) -> None:
@@ -139,7 +165,7 @@ def test_files_that_stand_in_others_are_read_with_them_alone(ask: Ask, tmp_path:
         'doc("b.xml")/book[1]/p[1]',
         'doc("d.xml")/chapter[1]/p[1]',
     ]
-    assert ran.stderr == "ask: 2 files passed over: 2 stand in other files, and are read with them (.xml 1, .ent 1)\n" and ran.returncode == 0
+    assert ran.stderr == "ask: 2 files passed over: 2 stand in other files, and are read with them (.xml 1, .ent 1); --verbose names them\n" and ran.returncode == 0
     assert ask(tmp_path / "b.xml", tmp_path / "a.xml", "--query", STORM, "--count").stdout == "4\n"
     assert ask(tmp_path, "--query", STORM, "--count", "--workers", 2).stdout == "4\n"
     assert ask(tmp_path, "--query", STORM, "--count", "--no-xinclude").stdout == "3\n"

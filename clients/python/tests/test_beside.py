@@ -60,9 +60,9 @@ QUESTIONS = [STORM, "collection()//para", "collection()//p[", 'collection()//p[.
 QUESTIONS += ['collection()//p[. contains text "don\'t"]', "collection()//*", 'collection()//p[. contains text "storms"]', 'doc("absent")//p', "# none", ""]
 ALL = [word for it in QUESTIONS for word in ("--query", it)]
 CALLS: list[list[str]] = [["--query", it] for it in QUESTIONS[:4]]
-CALLS += [["--query", "collection()//*", "--format", form] for form in ("json", "csv", "paths")]
-CALLS += [["--query", STORM, *more] for more in (["--count"], ["--limit", "1"], ["--offset", "2"], ["--as-typed", "--whole"], ["--timeout", "20"])]
-CALLS += [ALL + more for more in ([], ["--count"], ["--format", "json"], ["--format", "csv"], ["--as-typed"])]
+CALLS += [["--query", "collection()//*", "--format", form] for form in ("json", "csv", "xml", "paths")]
+CALLS += [["--query", STORM, *more] for more in (["--count"], ["--limit", "1"], ["--offset", "2"], ["--as-typed", "--whole"], ["--timeout", "20"], ["--verbose"])]
+CALLS += [ALL + more for more in ([], ["--count"], ["--format", "json"], ["--format", "csv"], ["--format", "xml"], ["--as-typed"])]
 
 
 def check_same(server: Server, words: list[object], runtime: Path, program: Path, cwd: Path) -> None:
@@ -84,7 +84,7 @@ def test_an_answer_has_the_same_bytes_as_without(server: Server, program: Path, 
 def test_a_folder_may_be_named_otherwise(server: Server, program: Path, folder: Path, runtime: Path, tmp_path: Path, form: str) -> None:
     (tmp_path / "link").symlink_to(folder)
     for named, cwd in ((Path("library"), folder.parent), (Path("../library"), folder), (Path("."), folder), (Path("link"), tmp_path)):
-        check_same(server, [named, "--query", "collection()//*", "--format", form], runtime, program, cwd)
+        check_same(server, [named, "--query", "collection()//*", "--format", form, "--verbose"], runtime, program, cwd)
 
 
 def on_terminal(words: list[object], runtime: Path, **variables: str) -> bytes:

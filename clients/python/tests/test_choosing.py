@@ -65,7 +65,13 @@ def test_what_is_passed_over_is_counted_with_its_reasons(tmp_path: Path) -> None
         "14 files passed over: 2 are hidden (.xml 2), 3 are HTML (.html 2, .htm 1), "
         "3 hold declarations alone (.dtd 1, .mod 1, .ent 1), 6 don't begin as XML documents do (mail 1, .txt 1, nothing 1, .php 1, others)"
     )
-    assert Choice([]).said() is None
+    first, *names = choice.lines(True)
+    assert first == choice.said() and list(choice.lines(False)) == [f"{first}; --verbose names them"]
+    assert len(names) == 14 and names[0] == f"{tmp_path}/.git/config.xml: passed over, since it is hidden"
+    assert f"{tmp_path}/book.dtd: passed over, since it holds declarations alone" in names
+    moved = list(choice.elsewhere(lambda path: Path("x") / path.name).lines(True))
+    assert moved[0] == first and "x/config.xml: passed over, since it is hidden" in moved
+    assert Choice([]).said() is None and list(Choice([]).lines(True)) == []
 
 
 @pytest.mark.parametrize(

@@ -8,7 +8,7 @@ for module in ("lxml", "prompt_toolkit"):
     pytest.importorskip(module)
 
 from ftq_ask.collection import Collection  # noqa: E402
-from ftq_ask.completing import BEHIND_A_STRING, BEHIND_TIMES, TIMES, UNITS, PathCompleter  # noqa: E402
+from ftq_ask.completing import BEHIND_A_FILTER, BEHIND_A_STRING, BEHIND_TIMES, TIMES, UNITS, PathCompleter  # noqa: E402
 from ftq_client import Session  # noqa: E402
 from prompt_toolkit.completion import CompleteEvent  # noqa: E402
 from prompt_toolkit.document import Document  # noqa: E402
@@ -35,8 +35,20 @@ COUNTED = 'query collection()//p[. contains text "storm" '
         (COUNTED + "occurs at least 2 times window 20 ", UNITS),
         (COUNTED + 'occurs at least 2 times ftand "sea" ', BEHIND_A_STRING),
         (COUNTED + 'occurs at least 2 times] and . contains ', ["text "]),
+        (COUNTED + "with", ["without content "]),
+        (COUNTED + 'ftand "sea" same sentence ', BEHIND_A_FILTER),
+        (COUNTED + "window 3 words wi", ["window ", "without content "]),
+        (COUNTED + "without ", ["content "]),
+        (COUNTED + "without content ", ["note", "p", ".//"]),
+        (COUNTED + "without content n", ["note"]),
+        (COUNTED + "without content .//n", ["note"]),
+        (COUNTED + "without content note ", ["| ", "and ", "or "]),
+        (COUNTED + "without content note | .", [".//"]),
+        (COUNTED + "without content note | p", []),
     ],
 )
 def test_what_is_offered(session: Session, typed: str, offered: list[str]) -> None:
-    completer = PathCompleter(Collection(session))
+    collection = Collection(session)
+    collection.command("load d", b"<p><note/></p>")
+    completer = PathCompleter(collection)
     assert [it.text for it in completer.get_completions(Document(typed), CompleteEvent())] == offered

@@ -79,7 +79,7 @@ CHANGES: list[tuple[str, Callable[[Path], object], bytes]] = [
     ("a part that stands alone", lambda top: (top / "more" / "book.xml").write_text("<r><p>storm</p></r>"), b"part.xml"),
     ("a document type", lambda top: (top / "more" / "r.dtd").write_text("<!ENTITY name 'Oslo'>"), b"Oslo"),
     ("a document type gone", lambda top: (top / "more" / "r.dtd").unlink(), b"the entity name is declared in another file"),
-    ("no XML", lambda top: (top / "more" / "notes.txt").write_text("storm"), b"1 don't begin as XML documents do"),
+    ("no XML", lambda top: (top / "more" / "notes.txt").write_text("storm"), b"1 doesn't begin as an XML document does"),
     ("too deep", lambda top: (top / "a.xml").write_text("<r>" * 201 + "</r>" * 201), b"inside 200 others"),
 ]
 

@@ -57,6 +57,27 @@ def test_the_program_refuses_what_is_wrong_and_reads_what_is_written_instead(mis
         ('//p[contains(text(), "a") or @id=3]/text()', 'collection()//p[. contains text "a" or @id = "3"]'),
         ('count(//p[. contains text "a" AND "b" OR "c"])', 'collection()//p[. contains text "a" ftand "b" ftor "c"]'),
         ("collection()//p | //title", "collection()//p"),
+        *[
+            (f'collection()//p[. contains text "a" {wrong}]', f'collection()//p[. contains text "a" {right}]')
+            for wrong, right in [
+                ("without contents .//note", "without content .//note"),
+                ("ignoring .//note", "without content .//note"),
+                ("excluding the content of note | fn", "without content note | fn"),
+                ("except *", "without content *"),
+                ("without /note", "without content note"),
+                ("without content collection()//note | //fn", "without content .//note | .//fn"),
+                ("without content./note", "without content ./note"),
+                ("WITHOUT CONTENT note", "without content note"),
+                ("without content 'note' | \"fn\"", "without content note | fn"),
+                ("without content .//@n", "without content .//*[@n]"),
+                ("without content note ftor fn[@n] || *", "without content note | fn[@n] | *"),
+                ('without content note ftand "b" window 5 words', 'ftand "b" window 5 words without content note'),
+                ("without stemming", "using no stemming"),
+                ("with stemming", "using stemming"),
+            ]
+        ],
+        ('collection()//p[. contains text "a" && ("b" without content note)]', 'collection()//p[. contains text "a" ftand ("b") without content note]'),
+        ('//p[. contains text "a"] without content fn[@n]', 'collection()//p[. contains text "a" without content fn[@n]]'),
     ],
 )
 def test_several_mistakes_are_repaired_together(path: str, write: str, session: Session) -> None:
@@ -92,6 +113,12 @@ def test_a_count_under_a_filter_is_written_as_it_may_stand(selection: str, write
     fault_of = Collection(session).fault_of_selection
     fault = fault_of(selection)
     assert fault and advice_for(selection, fault, fault_of) == Advice(advice.why, write)
+
+
+def test_filters_of_what_is_ignored_dont_stand_round_a_count(session: Session) -> None:
+    ignored = 'without content b[. contains text "c" window 3 words]'
+    advice = advised(f'collection()//p[. contains text "a" occurs exactly 2 times ordered {ignored}]', session, "inside filter")
+    assert advice is not None and advice.write == f'collection()//p[. contains text "a" occurs exactly 2 times {ignored}]'
 
 
 def test_what_counts_words_under_filters_is_read(session: Session) -> None:
@@ -150,6 +177,10 @@ def test_each_fault_of_the_program_has_words() -> None:
         ('collection()//p[. contains text "storm && dark"]', 0, 'write ("storm" ftand "dark")'),
         ('collection()//p[. contains text "storm NOT dark"]', 0, 'write ("storm" ftand ftnot "dark")'),
         ('collection()//p[. contains text "R&amp;D"]', 0, 'write "R&D" for "R&amp;D"'),
+        ('collection()//p[. contains text "storm" without content title or .//note]', 1, "without content title | .//note"),
+        ('collection()//book[p contains text "storm" without content title]', 0, "without content p/title, or .//title"),
+        ('collection()//p[. contains text "storm" without content title | .]', 1, "ignores all that is searched"),
+        ('collection()//p[. contains text "storm" without content titel]', 1, "did you mean title?"),
         ("collection()//p[. contains text 'a &quot;big&#34; sea']", 1, """write 'a "big" sea' for "a &quot;big&#34; sea\""""),
     ],
 )
@@ -174,6 +205,8 @@ def test_what_is_hinted_to_write_is_read(session: Session) -> None:
         'collection()//p[. contains text "storm"]',
         'collection()/book[@id = "b1"][title contains text "e.g" and not(db:para)]/*',
         'collection()//p[. contains text "sto.*" using wildcards ftand "3.14"]',
+        'collection()//book[p contains text "storm" without content p/title | .//p[. contains text "without content a or p"] or title]',
+        'collection()//book[p contains text "storm" without content .//title and @id]/p[p contains text "x" without content p[@id]]',
         'collection()//p[. contains text ("and" ftor "or") using stop words ("a.*")]',
         'doc("p")//title[. contains text "big storm" all words]',
         'collection()//p[. contains text "this OR that" ftor "R&D" ftor "AT&T; and more" ftor "a | b" ftor "Q&not this"]',
@@ -187,6 +220,9 @@ def test_what_is_told_of_a_path() -> None:
     path = 'doc("x")//a[@n = "1" and b contains text ("c d" ftor {"e", "f"} all) using stop words ("g") using thesaurus at "h" and not(i)]/or'
     assert asked_strings(path) == ["c d", "e", "f"]
     assert [(it.kind, it.name) for it in names_in(path)] == [("element", "a"), ("attribute", "n"), ("element", "b"), ("element", "i"), ("element", "or")]
+    ignoring = 'collection()//a[b contains text "c" without content d | .//e[@n = "x"][f contains text "g" same sentence] | content/h]/contains'
+    assert asked_strings(ignoring) == ["c", "g"]
+    assert [it.name for it in names_in(ignoring)] == ["a", "b", "d", "e", "n", "f", "content", "h", "contains"]
     assert missing_end('a[("b') == '")]'
     assert missing_end("a[b]") == ""
     assert asked_strings('a[. contains text "b" ftand ftnot "c" ftor "d"]', negated=False) == ["b", "d"]

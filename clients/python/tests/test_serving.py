@@ -175,7 +175,7 @@ def test_the_first_part_of_an_answer_is_there_before_the_program_has_answered(se
         top = b""
         while b"<main>" not in top:
             top += told.read1()
-        assert len(name) == 16 and b'id="stop"' in top and b'class="hit"' not in top
+        assert len(name) == 16 and b'id="stop"' in top and b"Stopping it leaves the collection" in top and b'class="hit"' not in top
     finally:
         for program in programs:
             os.kill(program, signal.SIGCONT)

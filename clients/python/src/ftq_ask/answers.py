@@ -1,4 +1,4 @@
-"""Answers and faults as text, JSON, CSV and paths."""
+"""Answers and faults as text, JSON, CSV, XML and paths."""
 
 from __future__ import annotations
 
@@ -13,6 +13,7 @@ from rich.text import Text
 
 from ftq_client import Element, QueryFault, Refusal, name_word
 
+from . import pages
 from .collection import Collection
 from .locating import FileLines, Located
 from .marking import Marking, hint_of
@@ -81,17 +82,22 @@ class Output:
     """The answers to questions on standard output or another console. Where there are many, each is told apart: as text by a line with its
     question, in CSV by a column, in JSON by an array."""
 
-    def __init__(self, collection: Collection, form: str, count: bool, manner: Manner, many: bool, console: Console | None = None) -> None:
-        """In this form, or the number alone, with texts in this manner; on that console, or on standard output."""
+    def __init__(
+        self, collection: Collection, form: str, count: bool, manner: Manner, many: bool, console: Console | None = None, offset: int = 0
+    ) -> None:
+        """In this form, or the number alone, with texts in this manner; on that console, or on standard output. So many elements of each answer are left
+        out at its front."""
         self.collection = collection
         self.console = console or Console(highlight=False)
         self.out = self.console.file
         self.form = "count" if count else form
         self.manner = manner
         self.many = many
+        self.offset = offset
         self._files = FileLines()
         self._rows: csv.DictWriter[str] | None = None
         self._objects: list[dict[str, Any]] = []
+        self._has_page = False
 
     def write(self, path: str, count: int, shown: list[Element], told: list[str], marking: Marking) -> None:
         """Writes an answer: how many elements a question has found, those that are shown, and the hints."""
@@ -104,6 +110,10 @@ class Output:
             self._objects.append({"query": path, "count": count, "results": results, "hints": [*told, *hint_of(marking, self.collection)]})
         elif self.form == "csv":
             self._csv(path, shown, marking)
+        elif self.form == "xml":
+            self._page()
+            hints = [*told, *hint_of(marking, self.collection)]
+            self.out.writelines(pages.answer(path, counted(count), (self._page_element(it, marking) for it in shown), self.offset + 1, hints))
         elif self.form == "paths":
             self.out.writelines(f"{it.line}\n" for it in shown)
         elif self.form == "vimgrep":
@@ -120,6 +130,20 @@ class Output:
             for it in written:
                 json.dump(it, self.out, ensure_ascii=False, indent=1)
                 self.out.write("\n")
+        elif self.form == "xml":
+            self._page()
+            self.out.write(pages.BACK)
+
+    def _page(self) -> None:
+        """Begins the page of all answers."""
+        if not self._has_page:
+            self._has_page = True
+            self.out.write(pages.FRONT)
+
+    def _page_element(self, element: Element, marking: Marking) -> str:
+        located, words = self.collection.locator.locate(element), marking.of(element)
+        rows = self.manner.rows(located, words) if located.shown.strip() else []
+        return pages.element(located, located.first_mark(words)[0], rows, shown_attributes(located))
 
     def _found(self, shown: list[Element], marking: Marking) -> list[dict[str, Any]]:
         return [row_of(self.collection.locator.locate(it), marking.of(it), self.manner) for it in shown]
@@ -235,8 +259,8 @@ _WORDS: dict[int, Callable[[Refusal], str]] = {
     4: lambda it: f"no document, no mark and no watch is called {it.name}",
     8: lambda it: f"there is no document {it.name}; files lists those that there are",
     15: lambda it: (
-        "why an element is found is shown where the last predicate of the path's last step is . contains text alone, without occurs under a filter and "
-        "without ftnot or occurs inside ftnot"
+        "why an element is found is shown where the last predicate of the path's last step is . contains text alone, which ignores nothing, without "
+        "occurs under a filter and without ftnot or occurs inside ftnot"
     ),
     9: lambda it: f"there is no list {it.name}: load it with stop {name_word(it.name)} or thesaurus {name_word(it.name)}, or by --stop",
 }

@@ -7,7 +7,7 @@ from pathlib import Path
 
 from .abbreviating import LANGUAGES
 
-FORMATS = ("text", "json", "csv", "paths", "vimgrep")
+FORMATS = ("text", "json", "csv", "xml", "paths", "vimgrep")
 
 ASK = """Asks a folder of XML: loads its files, and answers the questions of --query, or those that are typed at a prompt.
 
@@ -83,8 +83,8 @@ def read_words(arguments: list[str]) -> argparse.Namespace:
     for name in ("query", "workers", "scheduler") if options.follow else ():
         if getattr(options, name):
             words.error(f"--follow goes on with one program, and has no place beside --{name}")
-    if options.follow and options.format == "vimgrep":
-        words.error("--follow tells what comes and what goes, and has no place for that in --vimgrep")
+    if options.follow and options.format in ("vimgrep", "xml"):
+        words.error(f"--follow tells what comes and what goes, and has no place for that in --format {options.format}")
     return options
 
 
@@ -93,6 +93,7 @@ def add_arguments(parser: argparse.ArgumentParser) -> None:
     parser.add_argument(
         "--glob", metavar="PATTERN", action="append", default=[], help="reads the files of folders that match; with ! before it those that don't"
     )
+    parser.add_argument("--verbose", action="store_true", help="names the files of folders that are passed over, and says why")
     parser.add_argument("--no-dtd", action="store_true", help="reads no document type in other files")
     parser.add_argument("--no-xinclude", action="store_true", help="brings in no files that documents include")
     parser.add_argument("--no-catalog", action="store_true", help="looks into no catalog for document types and entities")

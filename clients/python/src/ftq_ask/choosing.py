@@ -7,7 +7,7 @@ import os
 import re
 from collections import Counter
 from pathlib import Path
-from typing import Iterator
+from typing import Callable, Iterator
 
 from .reading import BLOCKS, Rules
 from .trees import Untaken
@@ -28,6 +28,15 @@ DECLARATIONS = "hold declarations alone"
 HIDDEN = "are hidden"
 UNNAMED = "aren't named by --glob"
 PART = "stand in other files, and are read with them"
+_OF_ONE = {
+    NOT_XML: "doesn't begin as an XML document does",
+    HTML: "is HTML",
+    DECLARATIONS: "holds declarations alone",
+    HIDDEN: "is hidden",
+    UNNAMED: "isn't named by --glob",
+    PART: "stands in another file, and is read with it",
+}
+"""What is said of one file alone."""
 
 
 def rules_of(options: argparse.Namespace) -> Rules:
@@ -50,10 +59,19 @@ class Choice:
         self._unwanted = [it[1:] for it in globs if it.startswith("!")]
         self.passed: dict[str, Counter[str]] = {}
         """For each reason how many files were passed over, by the ending of their names."""
+        self.named: list[tuple[Path, str]] = []
+        """Those files, each with its reason."""
 
     def again(self) -> "Choice":
         """The same choice, in which nothing was passed over yet."""
         return Choice([*self._wanted, *(f"!{it}" for it in self._unwanted)])
+
+    def elsewhere(self, place: Callable[[Path], Path]) -> "Choice":
+        """The same, with what was passed over, each file at another path."""
+        other = self.again()
+        for path, reason in self.named:
+            other.pass_over(place(path), reason)
+        return other
 
     def files_of(self, arguments: list[Path]) -> Iterator[tuple[Path, Path | Untaken]]:
         """The files that the arguments name, each as its path from its argument and its path. Folders give those that are chosen, in the
@@ -78,11 +96,22 @@ class Choice:
         if not self.passed:
             return None
         count = sum(it.total() for it in self.passed.values())
-        reasons = (f"{endings.total():,} {reason} ({_listed(endings)})" for reason, endings in self.passed.items())
+        reasons = (f"{_counted(endings.total(), reason)} ({_listed(endings)})" for reason, endings in self.passed.items())
         return f"{count:,} file{'' if count == 1 else 's'} passed over: {', '.join(reasons)}"
+
+    def lines(self, all_named: bool) -> Iterator[str]:
+        """What is to be said of the files of folders that were passed over, where there are some: how many, and why; each of them where they are
+        named, in the order of their paths."""
+        said = self.said()
+        if said and not all_named:
+            yield f"{said}; --verbose names them"
+        elif said:
+            yield said
+            yield from (f"{path}: passed over, since it {_OF_ONE[reason]}" for path, reason in sorted(self.named))
 
     def pass_over(self, path: Path, reason: str) -> None:
         """Counts a file that isn't read, for a reason."""
+        self.named.append((path, reason))
         self.passed.setdefault(reason, Counter())[path.suffix.lower() or path.name] += 1
 
     def _takes(self, path: Path, shown: Path) -> bool:
@@ -150,6 +179,10 @@ def _files_in(folder: str, parts: tuple[str, ...]) -> Iterator[tuple[tuple[str, 
 
 def _leads_inside(path: Path, folder: Path) -> bool:
     return path.resolve().is_relative_to(folder.resolve())
+
+
+def _counted(count: int, reason: str) -> str:
+    return f"1 {_OF_ONE[reason]}" if count == 1 else f"{count:,} {reason}"
 
 
 def _listed(endings: Counter[str]) -> str:

@@ -52,7 +52,7 @@ def main(arguments: list[str]) -> int:
 
     def begin() -> None:
         load(collection, options, abbreviations, errors)
-        tell(collection, errors)
+        tell(collection, options, errors)
         if not options.query:
             answers.say(errors, loaded(collection, start))
         collection.seconds = options.timeout
@@ -105,11 +105,10 @@ def load(collection: Collection, options: argparse.Namespace, abbreviations: Abb
         collection.send_stop_list(language)
 
 
-def tell(collection: Collection, errors: Console) -> None:
+def tell(collection: Collection, options: argparse.Namespace, errors: Console) -> None:
     """Says what of the files wasn't taken, and which names of --blocks no element has."""
-    passed = collection.choice.said()
-    if passed:
-        answers.say(errors, f"ask: {passed}")
+    for line in collection.choice.lines(options.verbose):
+        answers.say(errors, f"ask: {line}")
     for untaken in collection.untaken:
         answers.say(errors, f"ask: {untaken}")
     for name in sorted(collection.rules.blocks - collection.vocabulary.elements.keys()):
@@ -132,7 +131,7 @@ def _load_with_bar(collection: Collection, planned: list[Planned], errors: Conso
 def answer_all(collection: Collection, options: argparse.Namespace, errors: Console, console: Console | None = None) -> int:
     """Answers the questions of --query, one after the other, on a console or standard output; hints and faults are written on standard error."""
     manner = answers.Manner(options.whole, options.every_mark, options.context)
-    out = answers.Output(collection, options.format, options.count, manner, len(options.query) > 1, console)
+    out = answers.Output(collection, options.format, options.count, manner, len(options.query) > 1, console, options.offset)
     faulty, some = bool(collection.untaken), False
     for path in options.query:
         try:
@@ -149,7 +148,7 @@ def answer_all(collection: Collection, options: argparse.Namespace, errors: Cons
         last = None if options.limit is None else options.offset + options.limit
         shown = found[options.offset : last]
         marking = Marking(path, collection, len(shown) == len(found))
-        if out.form == "json":
+        if out.form in ("json", "xml"):
             out.write(path, len(found), shown, all_hints(path, len(found), collection), marking)
         else:
             out.write(path, len(found), shown, [], marking)

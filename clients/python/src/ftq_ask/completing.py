@@ -36,9 +36,10 @@ OPTIONS = [
     "no stemming",
     "no wildcards",
 ]
-BEHIND_A_STRING = ["ftand ", "ftor ", "ftand ftnot ", "using ", "occurs ", "any word", "all words", "all", "phrase"]
+BEHIND_A_STRING = ["ftand ", "ftor ", "ftand ftnot ", "using ", "occurs ", "any word", "all words", "all", "phrase", "without content "]
 TIMES = ["exactly ", "at least ", "at most ", "from "]
-BEHIND_TIMES = ["ftand ", "ftor ", "ftand ftnot ", "window ", "same sentence", "same paragraph", "using "]
+BEHIND_TIMES = ["ftand ", "ftor ", "ftand ftnot ", "window ", "same sentence", "same paragraph", "using ", "without content "]
+BEHIND_A_FILTER = ["ftand ", "ftor ", "window ", "ordered", "same sentence", "same paragraph", "without content ", "and ", "or "]
 UNITS = ["words", "sentences", "paragraphs"]
 
 _NAME = r"[\w:.-]*"
@@ -58,6 +59,10 @@ class PathCompleter(Completer):
             (re.compile(r"\bwindow\s+[0-9]+\s+(\w*)$"), lambda: UNITS),
             (re.compile(r"\boccurs\s+([\w ]*)$"), lambda: TIMES),
             (re.compile(r"\bcontains\s+(\w*)$"), lambda: ["text "]),
+            (re.compile(r"\bwithout\s+(\w*)$"), lambda: ["content "]),
+            (re.compile(r"(?:\bwithout\s+content\s|\|)\s*(\.?[\w:-]*)$"), lambda: [*sorted(known.elements), ".//"]),
+            (re.compile(r"\bwithout\s+content\s[^\[\]]*[\w*]\s+(\w*)$"), lambda: ["| ", "and ", "or "]),
+            (re.compile(r"\bcontains\s+text\s[^\[\]]*(?:words?|sentences?|paragraphs?|ordered|at\s+(?:start|end))\s+(\w*)$"), lambda: BEHIND_A_FILTER),
             (re.compile(r"[\"'}]\s+(\w*)$"), lambda: BEHIND_A_STRING),
             (re.compile(rf"/({_NAME})$"), lambda: [*sorted(known.elements), "*"]),
             (re.compile(r"\[\s*(\.?[\w:-]*)$"), lambda: [". contains text ", ".//", *sorted(known.elements), "@", "not("]),

@@ -6,12 +6,12 @@ import re
 from dataclasses import dataclass
 from typing import Iterator
 
-from .paths import STRING, symbols
+from .paths import STRING, without_strings
 
 _UNIT = r"(?:words|sentences|paragraphs)"
 _RANGE = r"(?:exactly|at\s+least|at\s+most|from\s+[0-9]+\s+to)\s+[0-9]+"
 _FILTER = rf"window\s+[0-9]+\s+{_UNIT}|distance\s+{_RANGE}\s+{_UNIT}|(?:same|different)\s+(?:sentence|paragraph)|at\s+(?:start|end)|entire\s+content|ordered"
-_MARK = re.compile(rf"\b(?:{_FILTER}|and|or)\b|[()\]]")
+_MARK = re.compile(rf"\b(?:{_FILTER}|and|or|without)\b|[()\]]")
 _COUNTING = re.compile(rf"window\s.*|same\s.*|distance\s+(?:exactly|at\s+most|from\s+[0-9]+\s+to)\s+(?P<most>[0-9]+)\s+(?P<unit>{_UNIT})", re.DOTALL)
 
 _VALUE = rf"(?:{STRING}|\{{\s*{STRING}(?:\s*,\s*{STRING})*\s*\}})(?:\s+(?:any\s+word|any|phrase))?"
@@ -30,8 +30,8 @@ class Filter:
 def filters_round(path: str, column: int) -> list[Filter]:
     """The filters that stand round what is at a column of a path, the innermost first."""
     found, depth = [], 0
-    for told in _MARK.finditer(_without_strings(path), column):
-        if told[0] in ("]", "and", "or"):
+    for told in _MARK.finditer(without_strings(path), column):
+        if told[0] in ("]", "and", "or", "without"):
             break
         if told[0] in ("(", ")"):
             # What stands behind a parenthesis that was opened before the column is said of all in it.
@@ -65,12 +65,4 @@ def _with_one(path: str, filters: list[Filter], kept: Filter | None = None, text
     """A path in which one of these filters is written so, and the others are left out."""
     for it in reversed(filters):
         path = path[: it.start] + text + path[it.end :] if it is kept else path[: it.start].rstrip() + path[it.end :]
-    return path
-
-
-def _without_strings(path: str) -> str:
-    """A path with signs that mean nothing in the place of what its strings say."""
-    for it in symbols(path):
-        if it.kind in ("string", "open"):
-            path = path[: it.start] + '"' * len(it.text) + path[it.start + len(it.text) :]
     return path

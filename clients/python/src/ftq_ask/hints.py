@@ -7,7 +7,7 @@ import html
 import re
 from typing import Iterator
 
-from .paths import Named, asked_strings, is_said, names_in, quoted, symbols
+from .paths import Named, asked_strings, is_said, names_in, quoted, symbols, without_strings
 from .reading import Vocabulary
 from .words import words_of
 
@@ -32,7 +32,7 @@ def hints(path: str, found: int, vocabulary: Vocabulary, has_stems: bool, lacks_
     """What is likely meant otherwise in a path that was answered with so many elements; `lacks_words` tells that no document has one of its
     words, so that asking for them elsewhere in the element finds nothing either."""
     of_nothing = [] if found else _of_nothing(path, vocabulary, lacks_words)
-    return [*_of_names(path, vocabulary), *_of_strings(path), *_of_stems(path, has_stems), *of_nothing]
+    return [*_of_names(path, vocabulary), *_of_strings(path), *_of_stems(path, has_stems), *_of_ignored(path), *of_nothing]
 
 
 def _of_names(path: str, vocabulary: Vocabulary) -> Iterator[str]:
@@ -86,6 +86,26 @@ def _of_stems(path: str, has_stems: bool) -> Iterator[str]:
         yield "there are no stems, so that each word is its own; --stem LANGUAGE makes them of the collection's words"
     if is_said(path, "using", "language"):
         yield "using language changes nothing; --stem LANGUAGE and --stop LANGUAGE bring a language's lists"
+
+
+_NAME = r"[\w:][\w:.-]*"
+_IGNORED = r"\bwithout\s+content\s+"
+_JOINED = re.compile(rf"{_IGNORED}([^\[\]]*?)\s+(or|and)\s+((?:\.//?)?{_NAME})\s*(?=\])")
+_ELSEWHERE = re.compile(rf"(?:[\[(]|\band\b|\bor\b)\s*({_NAME})\s+contains\s+text\s[^\[\]]*?{_IGNORED}({_NAME})(?![\w:/])")
+
+
+def _of_ignored(path: str) -> Iterator[str]:
+    """Where something is ignored: other paths of it joined as conditions are, or named as if they began elsewhere; or all of it."""
+    bare = without_strings(path)
+    for told in _JOINED.finditer(bare):
+        also = "are found too" if told[2] == "or" else "alone are found"
+        yield f"{told[2]} joins predicates: elements with {told[3]} {also}; what is ignored is divided by |: without content {told[1]} | {told[3]}"
+    for told in _ELSEWHERE.finditer(bare):
+        inside, name = told[1], told[2]
+        if inside != name:
+            yield f"what is ignored is named from the element before the bracket on, not from {inside}: without content {inside}/{name}, or .//{name}"
+    if re.search(rf"{_IGNORED}(?:[^\[\]]*\|)?\s*\.\s*(?:[|\])]|\b(?:and|or)\b)", bare):
+        yield "without content . ignores all that is searched"
 
 
 def _of_nothing(path: str, vocabulary: Vocabulary, lacks_words: bool) -> Iterator[str]:

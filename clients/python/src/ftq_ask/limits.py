@@ -3,7 +3,6 @@
 from __future__ import annotations
 
 from pathlib import Path
-from typing import Collection
 from xml.parsers import expat
 
 from lxml import etree
@@ -49,54 +48,6 @@ def _of_blanks(nodes: int, blanks: int) -> str:
     if not blanks:
         return ""
     return f", of which {round(100 * blanks / nodes)} % are white space between elements, which --drop-blanks leaves out; or else"
-
-
-INCLUDE = "http://www.w3.org/2001/XInclude include"
-
-
-def lines_of_texts(root: etree._Element, path: Path, included: Collection[etree._Element] = ()) -> dict[tuple[etree._Element, bool], int]:
-    """The lines at which the texts of a document begin: that at the front of an element, and that behind its end (True), but for `included` elements
-    and what is in them. None are told where the file has other elements by itself, as where an entity brings some in from another file."""
-    elements = [it for it in root.iter(etree.Element) if not included or not _is_in(it, included)]
-    told: dict[tuple[int, bool], int] = {}
-    open_: list[int | None] = []
-    count = 0
-    place: tuple[int, bool] | None = None
-
-    def begins(name: str, attributes: dict[str, str]) -> None:
-        nonlocal count, place
-        is_left_out = bool(included) and name == INCLUDE or None in open_
-        open_.append(None if is_left_out else count)
-        place = None if is_left_out else (count, False)
-        count += not is_left_out
-
-    def ends(name: str) -> None:
-        nonlocal place
-        number = open_.pop()
-        place = None if number is None else (number, True)
-
-    def reads(text: str) -> None:
-        if place is not None:
-            told.setdefault(place, reader.CurrentLineNumber)
-
-    # Inclusions are known by their namespace; without them prefixes needn't be declared.
-    reader = expat.ParserCreate(namespace_separator=" ") if included else expat.ParserCreate()
-    # Entities that only a document type elsewhere has are passed over.
-    reader.SetParamEntityParsing(expat.XML_PARAM_ENTITY_PARSING_ALWAYS)
-    reader.UseForeignDTD(True)
-    reader.ExternalEntityRefHandler = lambda *_: 1
-    reader.StartElementHandler, reader.EndElementHandler = begins, ends
-    reader.CharacterDataHandler = reads
-    try:
-        reader.Parse(path.read_bytes(), True)
-    except (expat.ExpatError, OSError):
-        return {}
-    return {(elements[number], behind): line for (number, behind), line in told.items()} if count == len(elements) else {}
-
-
-def _is_in(element: etree._Element, others: Collection[etree._Element]) -> bool:
-    """Whether an element is one of some others, or stands in one."""
-    return element in others or any(it in others for it in element.iterancestors())
 
 
 def lines_of(root: etree._Element, path: Path) -> dict[etree._Element, int]:

@@ -14,9 +14,10 @@ from lxml import etree
 
 from ftq_client import Element
 
-from .limits import lines_of, lines_of_texts
-from .reading import Rules, Vocabulary, read_tree
+from .limits import lines_of
+from .reading import Rules, Vocabulary, files_beside, read_tree
 from .showing import Words
+from .spots import Spots
 from .trees import Tree, Untaken, texts_of, written_attributes, written_name
 
 
@@ -111,13 +112,25 @@ class FileLines:
 class Document:
     """A document's tree, in which children are found by name and number in one look."""
 
-    def __init__(self, tree: Tree, path: Path) -> None:
+    def __init__(self, tree: Tree, path: Path, rules: Rules) -> None:
         self.root = tree.root
         self.path = path
-        self.lines = {} if tree.origins else lines_of(tree.root, path)
+        self._tree, self._rules = tree, rules
         self._origins = tree.origins
         self._children: dict[etree._Element, dict[str, list[etree._Element]]] = {}
-        self._text_lines: dict[tuple[etree._Element, bool], int] | None = None
+        self._known_spots: Spots | None = None
+        self._lines = {} if tree.origins or self._brings_in else lines_of(tree.root, path)
+
+    @property
+    def _brings_in(self) -> bool:
+        """Whether other files than inclusions were read for it: document types and entities, which may bring in elements."""
+        return bool(self._tree.parts)
+
+    @property
+    def _spots(self) -> Spots:
+        if self._known_spots is None:
+            self._known_spots = Spots(self.root, self.path, self._origins, files_beside(self.path, self._rules, self._tree.parts))
+        return self._known_spots
 
     def find(self, element: Element) -> etree._Element | None:
         """The element to which the steps lead."""
@@ -133,20 +146,20 @@ class Document:
         return here
 
     def place(self, element: etree._Element) -> tuple[Path, int | None]:
-        """The file in which an element stands, be it an included one, and its line there."""
-        if not self._origins:
-            return self.path, self.lines.get(element)
+        """The file in which an element stands, be it one that is included or that an entity brings in, and its line there."""
+        if self._lines.get(element):
+            return self.path, self._lines[element]
         here: etree._Element | None = element
         while here is not None and here not in self._origins:
             here = here.getparent()
-        return self.path if here is None else self._origins[here], element.sourceline
+        spot = self._spots.elements.get(element) if here is None and (self._brings_in or not element.sourceline) else None
+        return spot or (self.path if here is None else self._origins[here], element.sourceline or None)
 
     def text_lines(self, element: etree._Element) -> list[int | None]:
-        """The lines of the file at which the texts in an element begin, as far as they are known."""
-        if self._text_lines is None:
-            self._text_lines = lines_of_texts(self.root, self.path, self._origins)
-        known = self._text_lines
-        return [known.get((it, behind)) for it, behind, _ in texts_of(element)]
+        """The lines at which the texts in an element begin, as far as they are known and in the element's file."""
+        path, _ = self.place(element)
+        spots = [self._spots.texts.get((it, behind)) for it, behind, _ in texts_of(element)]
+        return [spot[1] if spot and spot[0] == path else None for spot in spots]
 
     def _by_name(self, parent: etree._Element) -> dict[str, list[etree._Element]]:
         if parent not in self._children:
@@ -215,4 +228,4 @@ class Locator:
             tree = read_tree(source.path, self._rules)
         except Untaken as untaken:
             return f"the file can't be read any more: {untaken.reason}"
-        return Document(tree, source.path) if tree.digest == source.digest else "the file has changed since it was read"
+        return Document(tree, source.path, self._rules) if tree.digest == source.digest else "the file has changed since it was read"

@@ -5,7 +5,7 @@ from __future__ import annotations
 from ftq_client import ClientError, Element, Shown, TimedOut
 
 from .collection import Collection
-from .paths import DOCUMENTS, last_test, quoted
+from .paths import DOCUMENTS, ignores, last_test, quoted
 from .showing import Asked, Marked, Words
 
 MOST_SECONDS = 10.0
@@ -32,7 +32,8 @@ class Marking:
         """What is to be said where words were marked since the question has them, and the program could show marks, though not of this one."""
         if not self._asked.has_marked or self._told or not self._collection.can_show(""):
             return ""
-        why = "the program can't show by which words it is met" if self._test else "it doesn't end in [. contains text ..]"
+        ending = "some of what it searches is ignored" if ignores(self._path) else "it doesn't end in [. contains text ..]"
+        why = "the program can't show by which words it is met" if self._test else ending
         why = f"by which words it is met isn't found in {MOST_SECONDS:g} s" if self._late else why
         return f"the words of this question are marked wherever they stand, since {why}"
 

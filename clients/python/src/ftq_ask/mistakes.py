@@ -11,7 +11,9 @@ from .paths import STRING, missing_end
 
 _NAME = r"[\w:][\w:.-]*"
 _OPTION = r"(?:case|diacritics)\s+(?:in)?sensitive|lowercase|uppercase|stemming|wildcards|stop\s+words|thesaurus"
-_KEYWORDS = "CONTAINS|TEXT|FTAND|FTOR|FTNOT|USING|OCCURS|TIMES|ANY|ALL|WORDS?|PHRASE|STEMMING|WILDCARDS|COLLECTION|DOC"
+_KEYWORDS = "CONTAINS|TEXT|FTAND|FTOR|FTNOT|USING|OCCURS|TIMES|ANY|ALL|WORDS?|PHRASE|STEMMING|WILDCARDS|COLLECTION|DOC|WITHOUT|CONTENT"
+_IGNORED = r"[\w.:/*-]+(?:\[[^\]]*\])?(?:\s*\|\s*[\w.:/*-]+(?:\[[^\]]*\])?)*"
+"""Paths behind `without content`, as they mostly are, as a pattern."""
 
 Put = str | Callable[[re.Match[str]], str]
 
@@ -45,6 +47,11 @@ def _mistake(why: str, pattern: str, put: Put | None, wrong: str) -> Mistake:
 def _contains_call(told: re.Match[str]) -> str:
     what = "." if told[1].strip() in ("text()", ".") else told[1].strip()
     return f"{what} contains text {told[2]}"
+
+
+def _using(told: re.Match[str]) -> str:
+    turned = told[0].startswith("without") and re.match(r"stemming|wildcards|stop|thesaurus", told[1])
+    return f"using no {told[1]}" if turned else f"using {told[1]}"
 
 
 def _singular(told: re.Match[str]) -> str:
@@ -234,8 +241,74 @@ MISTAKES: list[Mistake] = [
     _mistake(
         "an option begins with using",
         rf"\bwith(?:out)?\s+({_OPTION})",
-        r"using \1",
+        _using,
         'collection()//p[. contains text "storm" with stemming]',
+    ),
+    _mistake(
+        "what is left out of the search stands behind without content",
+        r"\b(?:(?:without|ignor(?:e|ing)|except|exclud(?:e|ing)|skip(?:ping)?)(?:\s+the)?(?:\s+contents?\b)?(?:\s+(?:of|in)\b)?)\s+(?=[\w.*/])(?!content\b)",
+        "without content ",
+        'collection()//p[. contains text "storm" without note]',
+    ),
+    _mistake(
+        "behind it stands what is left out: NAME for children, .//NAME at any depth",
+        r"\bwithout\s+content\s*(?=[\])]|$)",
+        None,
+        'collection()//p[. contains text "storm" without content]',
+    ),
+    _mistake(
+        "what is ignored is named from the element on: NAME is a child, .//NAME any below",
+        rf"(\bwithout\s+content\s+|\|\s*)(?:collection\s*\(\s*\)|doc\s*\(\s*{STRING}\s*\))?\s*(//?)\s*(?=[\w*])",
+        lambda told: told[1] + (".//" if told[2] == "//" else ""),
+        'collection()//p[. contains text "storm" without content //note]',
+    ),
+    _mistake(
+        "a blank stands before the period, which would be one of the name",
+        r"\bcontent\.(?=[\s/\]|])",
+        "content .",
+        'collection()//p[. contains text "storm" without content.//note]',
+    ),
+    _mistake(
+        "names are no strings",
+        rf"(\bwithout\s+content\s+|\|\s*)[\"']({_NAME})[\"']",
+        r"\1\2",
+        'collection()//p[. contains text "storm" without content "note"]',
+    ),
+    _mistake(
+        "elements are ignored; those that have an attribute are named so",
+        rf"(\bwithout\s+content\s+|\|\s*)(?:\.//?)?@({_NAME})",
+        r"\1.//*[@\2]",
+        'collection()//p[. contains text "storm" without content @n]',
+    ),
+    _mistake(
+        "several paths are divided by | and have no parentheses",
+        r"(\bwithout\s+content\s*)\(([^()]*)\)",
+        lambda told: f"{told[1].rstrip()} " + re.sub(r"\s*,\s*", " | ", told[2]),
+        'collection()//p[. contains text "storm" without content (note, fn)]',
+    ),
+    _mistake(
+        "several paths are divided by |",
+        rf"(\bwithout\s+content\s+{_IGNORED})\s*(?:,|\|\||\bunion\b|\bftor\b|&&?)\s*",
+        r"\1 | ",
+        'collection()//p[. contains text "storm" without content note, fn]',
+    ),
+    _mistake(
+        "without content stands last, behind the whole selection",
+        rf"\s*\bwithout\s+content\s+({_IGNORED})\s+((?:ftand|ftor|not\s+in|using|occurs|window|distance|same|different|ordered|at|entire)\b[^\]]*?)(?=\s*\])",
+        r" \2 without content \1",
+        'collection()//p[. contains text "big storm" without content note same sentence]',
+    ),
+    _mistake(
+        "without content stands last, behind the whole selection",
+        rf"\s*\bwithout\s+content\s+({_IGNORED})\s*\)([^\]]*?)(?=\s*\])",
+        r")\2 without content \1",
+        'collection()//p[. contains text ("storm" without content note) ftand "ship"]',
+    ),
+    _mistake(
+        "without content stands in the brackets, behind the selection",
+        rf"(contains\s+text\s+[^\[\]]*)\]\s*without\s+content\s+({_IGNORED})",
+        r"\1 without content \2]",
+        'collection()//p[. contains text "storm"] without content note',
     ),
     _mistake(
         "the option's name is another",

@@ -82,9 +82,8 @@ def main(arguments: list[str]) -> int:
     for query in options.query:
         packing.write(packing.command(f"query {query}"))
     packing.out.flush()
-    passed = choice.said()
-    if passed:
-        print(f"pack: {passed}", file=sys.stderr)
+    for line in choice.lines(options.verbose):
+        print(f"pack: {line}", file=sys.stderr)
     for fault in packing.faults():
         print(f"pack: {fault}", file=sys.stderr)
         status = 1

@@ -13,7 +13,7 @@ _FIRST = (
 _FURTHER = _FIRST + "\\-.0-9\u00b7\u0300-\u036f\u203f\u2040"
 _SYMBOL = re.compile(
     rf"(?P<blank>\s+)|(?P<string>\"(?:[^\"]|\"\")*\"|'(?:[^']|'')*')|(?P<open>[\"'].*)|(?P<name>[{_FIRST}][{_FURTHER}]*)"
-    r"|(?P<number>[0-9]+)|(?P<mark>//|[/\[\](){},@=.*])|(?P<other>.)",
+    r"|(?P<number>[0-9]+)|(?P<mark>//|[/\[\](){},@=.*|])|(?P<other>.)",
     re.DOTALL,
 )
 _CLOSER = {"(": ")", "[": "]", "{": "}"}
@@ -89,11 +89,11 @@ def _asked_places(row: list[Symbol]) -> Iterator[int]:
 
 
 def last_test(path: str) -> str:
-    """The predicate at the end of a path, where it begins as one that asks for text does; else nothing."""
+    """The predicate at the end of a path, where it begins as one that asks for text does, and ignores nothing; else nothing."""
     row = symbols(path)
     brackets = [number for number, it in enumerate(row) if it.text in ("[", "]")]
     begun = brackets[-2] if len(brackets) > 1 and row[brackets[-2]].text == "[" and brackets[-1] == len(row) - 1 else None
-    if begun is None or [it.text for it in row[begun + 1 : begun + 4]] != [".", "contains", "text"]:
+    if begun is None or [it.text for it in row[begun + 1 : begun + 4]] != [".", "contains", "text"] or ignores(path[row[begun].start :]):
         return ""
     return path[row[begun].start :].rstrip()
 
@@ -131,14 +131,7 @@ class Named:
     start: int
 
 
-KEYWORDS = frozenset(
-    "contains text and or not using ftand ftor ftnot occurs times any all word words phrase exactly at least most from to".split()
-    + "case diacritics sensitive insensitive lowercase uppercase stemming wildcards stop thesaurus relationship levels no".split()
-    + "language union except ordered window distance sentences paragraphs same different sentence paragraph start end entire content".split()
-)
-"""The words of the language, as they stand after a value or between predicates."""
-
-_BEFORE_NAME = frozenset({"/", "//", "[", "(", "and", "or"})
+_BEFORE_NAME = frozenset({"/", "//", "[", "(", "and", "or", "|"})
 
 
 def names_in(path: str) -> Iterator[Named]:
@@ -152,15 +145,30 @@ def names_in(path: str) -> Iterator[Named]:
             inside = True
         elif symbol.text == "]" or (inside and symbol.text in ("and", "or")):
             inside = False
+        begins_ignored = [it.text for it in row[max(0, number - 2) : number]] == ["without", "content"]
+        inside = inside and not begins_ignored
         if symbol.kind != "name" or inside:
             continue
         if before == "@":
             yield Named("attribute", symbol.text, symbol.start)
-        elif before in _BEFORE_NAME and after != "(":
+        elif (before in _BEFORE_NAME or begins_ignored) and after != "(":
             yield Named("element", symbol.text, symbol.start)
+
+
+def ignores(path: str) -> bool:
+    """Whether a path, or a part of one, ignores some elements inside those that it searches."""
+    return is_said(path, "without", "content")
 
 
 def is_said(path: str, *words: str) -> bool:
     """Whether these symbols stand beside each other in a path, outside strings."""
     row = [it.text for it in symbols(path)]
     return any(row[number : number + len(words)] == list(words) for number in range(len(row)))
+
+
+def without_strings(path: str) -> str:
+    """A path with signs that mean nothing in the place of what its strings say."""
+    for it in symbols(path):
+        if it.kind in ("string", "open"):
+            path = path[: it.start] + '"' * len(it.text) + path[it.start + len(it.text) :]
+    return path

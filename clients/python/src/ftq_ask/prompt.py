@@ -38,6 +38,7 @@ A question is a path; query may stand before it:
     collection()//p[. contains text "heavy storm"]     a phrase
     doc("NAME")//chapter[title contains text "sea" ftand ftnot "storm"]
     collection()//p[. contains text "regist.*" using wildcards]
+    collection()//p[. contains text "heavy storm" without content note | .//fn]
     print PATH                                         the elements as XML
     show PATH                                          their words, with those marked by which they are found
 

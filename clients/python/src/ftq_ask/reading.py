@@ -13,8 +13,8 @@ import re
 from dataclasses import dataclass, field
 from functools import lru_cache
 from pathlib import Path
-from typing import Iterable, Iterator
-from urllib.parse import quote, unquote
+from typing import Callable, Iterable, Iterator
+from urllib.parse import quote, unquote, urljoin
 
 from lxml import etree
 
@@ -257,7 +257,7 @@ class _Resolver(etree.Resolver):
         """Those, and the ones that weren't there."""
 
     def resolve(self, system_url: str | None, public_id: str | None, context: object) -> object:
-        path = self._file(system_url or "", public_id)
+        path = self.find(system_url or "", public_id)
         if path is None:
             self._elsewhere.append((system_url or "", public_id))
             return self.resolve_string("", context)
@@ -271,7 +271,8 @@ class _Resolver(etree.Resolver):
             unquote(system) or public or "" for system, public in self._elsewhere if not (system.rpartition("/")[2] == own and public == info.public_id)
         ]
 
-    def _file(self, system: str, public: str | None) -> Path | None:
+    def find(self, system: str, public: str | None) -> Path | None:
+        """The file that stands for these identifiers; None where it may not be read."""
         beside = path_of(system)
         if beside is not None and system:
             inside = (self._folders[0] / beside).resolve()
@@ -285,6 +286,17 @@ class _Resolver(etree.Resolver):
             self.looked.add(known)
             self._folders.append(known.resolve().parent)
         return known
+
+
+def files_beside(path: Path, rules: Rules, read: frozenset[Path]) -> Callable[[Path, str, str | None], Path | None]:
+    """Tells the file that another one names by its identifiers, as reading the file at `path` has found it; none but those that were `read` then."""
+    resolver = _Resolver(path, rules)
+
+    def file_of(naming: Path, system: str, public: str | None) -> Path | None:
+        found = resolver.find(urljoin(naming.absolute().as_uri(), system), public)
+        return found if found in read else None
+
+    return file_of
 
 
 def _parser(resolver: _Resolver, huge: bool, doctypes: bool) -> etree.XMLParser:

@@ -149,9 +149,12 @@ class Calls:
         out, errors = (_console(Written(name, rows), terminal, caller) for name, terminal in zip(("out", "err"), caller.terminals))
         self._desk.freshen()
         view = self._desk.view(question, options.as_typed)
-        placed(view, Places(self._paths, options.paths))
+        places = Places(self._paths, options.paths)
+        placed(view, places)
+        if options.verbose:
+            view.choice = view.choice.elsewhere(places.path)
         try:
-            tell(view, errors)
+            tell(view, options, errors)
             view.seconds = options.timeout
             view.engine.give_up_after(options.timeout)
             return answer_all(view, options, errors, out)

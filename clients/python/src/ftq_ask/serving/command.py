@@ -84,7 +84,7 @@ def serve(arguments: list[str]) -> int:
         looked = files.look(time.time_ns(), set())
         load(collection, options, abbreviations, errors)
         collection.reader.stay_alone()
-        tell(collection, errors)
+        tell(collection, options, errors)
         answers.say(errors, loaded(collection, start))
     except (ClientError, NoList, OSError, ValueError, KeyboardInterrupt) as error:
         answers.say(errors, f"ask: {str(error) or 'interrupted'}")
