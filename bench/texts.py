@@ -1,6 +1,7 @@
 """The texts of the benchmarks: made with a fixed seed, so that each run and each machine measures the same bytes."""
 
 import random
+import re
 
 # Words of one to four syllables; the word of rank r is drawn with a weight of 1 / r.
 SYLLABLES = "ba be bi bo ca ce co da de di do fa fi go ha he in ka la le lo ma me mi na ne no on pa pe ra re ri ro sa se si so ta te ti to un va vi".split()
@@ -96,3 +97,20 @@ def paragraphs(bytes_wanted, seed=20261129):
         parts.append(f"<p>{text}</p>\n")
         size += len(parts[-1])
     return ("<r>" + "".join(parts) + "</r>").encode("utf-8")
+
+
+def noted(documents, seed=20261201):
+    """Books with notes in their chapters, one behind the title and one behind each section: about ten of ten words for a book."""
+    words = Words(seed)
+    found = []
+    for document in documents:
+        parts = re.split(r"(?<=</section>\n)|(?<=</title>\n)(?=<section)", document.decode("ascii"))
+        notes = [f"<note>{' '.join(words.take(10))} remark.</note>\n" for _ in parts[1:]]
+        found.append("".join(text for pair in zip(parts, [*notes, ""]) for text in pair).encode("ascii"))
+    return found
+
+
+def levels(count, words_each):
+    """One element in which others stand, so many levels deep; each has so many words of its own, and a hole with some more."""
+    opened = "".join(f"<e>{'a b ' * (words_each // 2)}<h>x y</h>" for _ in range(count))
+    return (opened + "</e>" * count).encode("ascii")
