@@ -22,8 +22,6 @@ mod take_rows;
 mod term_leaf;
 mod term_places;
 mod terms;
-#[cfg(test)]
-mod tests;
 
 pub use doc_index::DocIndex;
 pub use term_leaf::TermLeaf;

@@ -6,7 +6,5 @@
 
 mod counts;
 pub mod examples;
-#[cfg(test)]
-mod tests;
 
 pub use counts::DocumentCounts;

@@ -42,8 +42,6 @@ mod probing;
 mod reach;
 mod rising;
 mod standing_out;
-#[cfg(test)]
-mod tests;
 mod tuples;
 mod walking;
 

@@ -10,8 +10,6 @@ mod cursor;
 mod every;
 pub mod examples;
 mod search;
-#[cfg(test)]
-mod tests;
 
 pub use break_view::BreakView;
 pub use cursor::{Cursor, first_word, first_word_near};

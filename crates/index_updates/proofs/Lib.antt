@@ -1,4 +1,3 @@
-pub mod BareLemmas
 pub mod ChangeLemmas
 pub mod IndexLemmas
 pub mod LeavesLemmas

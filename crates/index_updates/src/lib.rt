@@ -11,8 +11,6 @@ mod dropping;
 pub mod examples;
 pub mod laws;
 mod rebreaking;
-#[cfg(test)]
-mod tests;
 
 pub use adding::{Found, add_doc, add_loaded};
 pub use changing::apply_change;

@@ -31,8 +31,6 @@ mod term_cursor;
 mod term_source;
 mod term_sources;
 mod terms;
-#[cfg(test)]
-mod tests;
 mod version;
 mod word_leaf;
 mod words;

@@ -20,8 +20,6 @@ mod item;
 pub mod laws;
 mod source;
 mod spot;
-#[cfg(test)]
-mod tests;
 mod variant;
 
 pub use counting::count_places;

@@ -15,8 +15,6 @@ mod given;
 mod places;
 mod term;
 mod terms;
-#[cfg(test)]
-mod tests;
 
 pub use dictionary::TermDict;
 pub use term::Term;

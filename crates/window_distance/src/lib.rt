@@ -14,8 +14,6 @@ mod neighbours;
 mod pairs;
 mod passing;
 mod positions;
-#[cfg(test)]
-mod tests;
 
 pub use all_matches::Window;
 pub use includes::Includes;
