@@ -1,4 +1,4 @@
-"""A conversation with the program over a pipe, in which the time of each reply is taken when its last byte is there."""
+"""A conversation with the program over a pipe, in which the time of each reply is taken when its last byte is there; and the commands of a session."""
 
 import contextlib
 import fcntl
@@ -7,17 +7,45 @@ import subprocess
 import threading
 import time
 
+TOP = os.path.dirname(os.path.dirname(os.path.abspath(__file__)))
+PROGRAM = os.environ.get("FTQ") or os.path.join(TOP, "crates", "ftq", "out", "ftq")
 PIPE_BYTES = 1 << 20
+
+
+class Refused(Exception):
+    """The program answered otherwise than it has to."""
 
 
 class TooSlow(Exception):
     """The program took longer than it might, and was ended."""
 
 
+def with_block(command, content):
+    """A command with a block, as a session of format 1 has it."""
+    lines = [b"." + line if line.startswith(b".") else line for line in content.split(b"\n")]
+    return command.encode("utf-8") + b"\n" + b"\n".join(lines) + b"\n.\n"
+
+
+def with_sized_block(command, content):
+    """A command with a block, as a session of format 2 has it."""
+    word, _, rest = command.partition(" ")
+    return f"{word} {len(content)} {rest}\n".encode("ascii") + content + b"\n"
+
+
+def loads_of(documents, write=with_block):
+    """The commands that load documents, under the names d0, d1 and so on."""
+    return [write(f"load d{number}", document) for number, document in enumerate(documents)]
+
+
+def shown(command):
+    """The first line of a command, as a message has it."""
+    return command.partition(b"\n")[0].decode("utf-8", errors="replace")[:200]
+
+
 class Conversation:
     """The program at the other end of a pipe."""
 
-    def __init__(self, program):
+    def __init__(self, program=PROGRAM):
         self.child = subprocess.Popen([program, "/dev/stdin"], stdin=subprocess.PIPE, stdout=subprocess.PIPE, bufsize=0)
         for pipe in (self.child.stdin, self.child.stdout):
             fcntl.fcntl(pipe, fcntl.F_SETPIPE_SZ, PIPE_BYTES)
@@ -38,6 +66,36 @@ class Conversation:
         self._write(command)
         first = self._reply(lines_each)
         return first, time.perf_counter() - start
+
+    def accepted(self, command):
+        """The seconds that a command takes, which has to be answered `ok`."""
+        return self.expected(command, "ok")
+
+    def expected(self, command, reply):
+        """The seconds that a command takes, whose reply has to begin with this line."""
+        first, seconds = self.timed(command)
+        if first != reply:
+            raise Refused(f"{shown(command)} was answered {first}, not {reply}")
+        return seconds
+
+    def found(self, path, command="query", lines_each=1):
+        """How many elements a path finds, and the seconds that it takes to have a line for each."""
+        first, seconds = self.timed(f"{command} {path}\n".encode("utf-8"), lines_each)
+        if not first.startswith("= "):
+            raise Refused(f"{command} {path} was answered {first}")
+        return int(first[2:]), seconds
+
+    def load(self, commands):
+        """The seconds that commands take which are sent without waiting, each of which has to be answered `ok`."""
+        replies, seconds = self.timed_all(commands)
+        wrong = next((number for number, reply in enumerate(replies) if reply != "ok"), None)
+        if wrong is not None:
+            raise Refused(f"{shown(commands[wrong])} was answered {replies[wrong]}")
+        return seconds
+
+    def begin_format_2(self):
+        """Says that the session is one of format 2, before anything else."""
+        self.answered(b"session 2\nstats\n")
 
     def answered(self, command, lines_each=1):
         """The lines of the reply to a command, its first one first; `show` has two of them for each element."""

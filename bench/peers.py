@@ -1,4 +1,4 @@
-"""The programs beside which ftq is measured, each where it is installed: xmllint, SQLite's FTS5 and BaseX."""
+"""The programs beside which ftq is measured, each where it is installed: xmllint, SQLite's FTS5, Xapian, and BaseX of basex.py."""
 
 import os
 import re
@@ -8,6 +8,14 @@ import subprocess
 import time
 import xml.etree.ElementTree as ElementTree
 
+import bars
+import basex
+
+try:
+    import xapian
+except ImportError:
+    xapian = None
+
 
 def missing():
     """The names of the peers that aren't installed, with what brings them."""
@@ -16,12 +24,15 @@ def missing():
         names.append("xmllint (Debian: libxml2-utils)")
     if not has_fts5():
         names.append("SQLite FTS5")
-    if not shutil.which("basex"):
+    if not xapian:
+        names.append("Xapian (Debian: python3-xapian, for /usr/bin/python3)")
+    if not basex.is_installed():
         names.append("BaseX (Debian: basex)")
     return names
 
 
 def has_fts5():
+    """Whether SQLite was built with FTS5."""
     try:
         sqlite3.connect(":memory:").execute("create virtual table p using fts5(text)")
     except sqlite3.OperationalError:
@@ -29,33 +40,14 @@ def has_fts5():
     return True
 
 
+def text_of(element):
+    """All text in an element."""
+    return "".join(element.itertext())
+
+
 def paragraphs_of(documents):
     """The text of each paragraph of the documents."""
-    for document in documents:
-        for paragraph in ElementTree.fromstring(document).iter("p"):
-            yield "".join(paragraph.itertext())
-
-
-class Fts5:
-    """The paragraphs of documents in a table of SQLite's, in memory."""
-
-    name = "SQLite FTS5"
-
-    def __init__(self, documents):
-        self.connection = sqlite3.connect(":memory:")
-        self.connection.execute("create virtual table p using fts5(text)")
-        rows = [(text,) for text in paragraphs_of(documents)]
-        start = time.perf_counter()
-        self.connection.executemany("insert into p values (?)", rows)
-        self.connection.commit()
-        self.index_seconds = time.perf_counter() - start
-
-    def count(self, match, repeated):
-        """How many paragraphs match, and the seconds that it takes to count them."""
-        start = time.perf_counter()
-        for _ in range(repeated):
-            found = self.connection.execute("select count(*) from p where p match ?", (match,)).fetchone()[0]
-        return found, (time.perf_counter() - start) / repeated
+    return [text_of(paragraph) for document in documents for paragraph in ElementTree.fromstring(document).iter("p")]
 
 
 def words_of(documents):
@@ -66,83 +58,106 @@ def words_of(documents):
     return sorted(words)
 
 
-def stems_of(folder, words):
-    """The words whose stem is another one, each with its stem, by BaseX's stemmer of English."""
-    path = os.path.join(folder, "words.txt")
-    with open(path, "w", encoding="utf-8") as file:
-        file.write("\n".join(words))
-    options = 'map { "stemming": true(), "language": "en" }'
-    query = f'for $word in tokenize(file:read-text("{path}"), "\n") return $word || " " || ft:tokenize($word, {options})'
-    ran = subprocess.run(["basex", query], capture_output=True, text=True, check=True)
-    pairs = [line.split(" ") for line in ran.stdout.split("\n") if line]
-    return [(word, stem) for word, stem in pairs if word != stem]
+def size_of(folder):
+    """The bytes of the files of a folder."""
+    return sum(os.path.getsize(os.path.join(inside, name)) for inside, _, names in os.walk(folder) for name in names)
 
 
-# A database of BaseX's: its name, how it is set up, and whether a query is put to it. With an index of stems queries are answered that
-# use stemming; a thesaurus is looked at only without an index, with which the word alone is found.
-DATABASES = [
-    ("indexed", [], lambda query: "using stemming" not in query and "using thesaurus" not in query),
-    ("stems", ["SET STEMMING true", "SET LANGUAGE en"], lambda query: "using stemming" in query),
-    ("scanned", ["SET STEMMING false", "SET FTINDEX false"], lambda query: "using thesaurus" in query),
-]
+def xmllint_seconds(paths, options=()):
+    """The seconds that xmllint takes to read documents."""
+    start = time.perf_counter()
+    subprocess.run(["xmllint", *options, "--noout", *paths], check=True)
+    return time.perf_counter() - start
 
 
-class BaseX:
-    """The documents in databases of BaseX's, made and asked in one run of the program: how many elements a query finds, and the path of
-    each of them, as ftq prints it."""
+class Fts5:
+    """Paragraphs in a table of SQLite's, in memory."""
 
-    name = "BaseX"
+    name = bars.FTS5
 
-    def __init__(self, folder, paths, queries, synonyms, repeated):
-        home = os.path.join(folder, "basex")
-        os.makedirs(os.path.join(home, "documents"))
-        for path in paths:
-            shutil.copy(path, os.path.join(home, "documents"))
-        thesaurus = self.write_thesaurus(home, synonyms)
-        # Blanks between elements stay, as in ftq: without them a title's last word would be one with the first of what follows.
-        commands, ordered = ["SET CHOP false", "SET FTINDEX true", f"SET RUNS {repeated}"], []
-        for name, settings, is_for in DATABASES:
-            chosen = [query for query in queries if is_for(query)]
-            ordered += chosen
-            commands += [*settings, f"CREATE DB {name} {home}/documents", "SET QUERYINFO true"]
-            commands += [*self.asked([query.replace("THESAURUS", thesaurus) for query in chosen]), "SET QUERYINFO false"]
-        script = os.path.join(home, "bench.bxs")
-        with open(script, "w", encoding="utf-8") as file:
-            file.write("\n".join(commands) + "\n")
-        environment = {**os.environ, "JAVA_ARGS": f"-Dorg.basex.path={home} -XX:+UseTransparentHugePages"}
-        ran = subprocess.run(["basex", "-V", script], capture_output=True, text=True, env=environment, check=True)
-        created = re.search(r"created in ([\d.]+) ms", ran.stdout)
-        self.index_seconds = float(created[1]) / 1000
-        counts = [int(found) for found in re.findall(r"^(\d+)\nQuery:$", ran.stdout, re.MULTILINE)][1::2]
-        hits = [int(found) for found in re.findall(r"^Hit\(s\): (\d+) Item", ran.stdout, re.MULTILINE)][3::4]
-        seconds = [float(found) / 1000 for found in re.findall(r"^Total Time: ([\d.]+) ms", ran.stdout, re.MULTILINE)][1::2]
-        if counts != hits or 2 * len(counts) != len(seconds) or len(counts) != len(queries):
-            raise ValueError(f"BaseX counted {counts} and printed {hits} for {len(queries)} queries: {ran.stdout[-400:]}")
-        self.counted = dict(zip(ordered, zip(counts, seconds[0::2])))
-        self.printed = dict(zip(ordered, zip(hits, seconds[1::2])))
+    def __init__(self, texts):
+        self.connection = sqlite3.connect(":memory:")
+        self.connection.execute("create virtual table p using fts5(text)")
+        self.index_seconds = self.changed("insert into p values (?)", [(text,) for text in texts])
 
-    @staticmethod
-    def write_thesaurus(home, synonyms):
-        """The path of a thesaurus in which each first word leads to the second as its synonym."""
-        path = os.path.join(home, "thesaurus.xml")
-        entries = (
-            f"<entry><term>{term}</term><synonym><term>{other}</term><relationship>synonym</relationship></synonym></entry>" for term, other in synonyms
-        )
-        with open(path, "w", encoding="utf-8") as file:
-            file.write(f'<thesaurus xmlns="http://www.w3.org/2007/xqftts/thesaurus">{"".join(entries)}</thesaurus>')
-        return path
+    def close(self):
+        """Gives the table up."""
+        self.connection.close()
 
-    @staticmethod
-    def asked(queries):
-        """The commands that ask: each query is counted and printed, and each of that twice, since the first time the program gets warm."""
-        forms = ("count({})", "({}) ! (db:path(.) || path(.))")
-        asked = [form.format(query) for query in queries for form in forms]
-        return [f"XQUERY {query}" for query in asked for _ in range(2)]
+    def changed(self, statement, rows):
+        """The seconds that a statement takes for all rows, and to commit."""
+        start = time.perf_counter()
+        self.connection.executemany(statement, rows)
+        self.connection.commit()
+        return time.perf_counter() - start
 
-    def count(self, query, _repeated):
-        """How many elements the query finds, and the seconds that it takes to count them."""
-        return self.counted[query]
+    def bytes_kept(self):
+        """The bytes of the table and its index."""
+        pages, size = (self.connection.execute(f"pragma {it}").fetchone()[0] for it in ("page_count", "page_size"))
+        return pages * size
 
-    def print_paths(self, query, _repeated):
-        """How many elements the query finds, and the seconds that it takes to print the document and the path of each."""
-        return self.printed[query]
+    def programs(self, question):
+        """How FTS5 is asked a question, where it can be."""
+        return {f"{self.name}, counting": lambda: self._count(question.match)} if question.match else {}
+
+    def _count(self, match):
+        """How many paragraphs match, and the seconds that it takes to count them."""
+        start = time.perf_counter()
+        found = self.connection.execute("select count(*) from p where p match ?", (match,)).fetchone()[0]
+        return found, time.perf_counter() - start
+
+
+class Xapian:
+    """Paragraphs in a database of Xapian's, in a folder."""
+
+    name = bars.XAPIAN
+
+    def __init__(self, folder, texts):
+        self.folder = folder
+        start = time.perf_counter()
+        self.database = xapian.WritableDatabase(folder, xapian.DB_CREATE_OR_OVERWRITE | xapian.DB_NO_SYNC)
+        terms = xapian.TermGenerator()
+        terms.set_stemming_strategy(xapian.TermGenerator.STEM_NONE)
+        for text in texts:
+            document = xapian.Document()
+            terms.set_document(document)
+            terms.set_termpos(0)
+            terms.index_text(text)
+            self.database.add_document(document)
+        self.database.commit()
+        self.index_seconds = time.perf_counter() - start
+        self.parser = xapian.QueryParser()
+        self.parser.set_database(self.database)
+        self.parser.set_stemming_strategy(xapian.QueryParser.STEM_NONE)
+        self.flags = xapian.QueryParser.FLAG_BOOLEAN | xapian.QueryParser.FLAG_PHRASE | xapian.QueryParser.FLAG_WILDCARD
+
+    def close(self):
+        """Gives the database up."""
+        self.database.close()
+        shutil.rmtree(self.folder)
+
+    def bytes_kept(self):
+        """The bytes of the database on the disk."""
+        return size_of(self.folder)
+
+    def programs(self, question):
+        """How Xapian is asked a question, where it can be."""
+        if not question.match:
+            return {}
+        query = xapian_query(question.match)
+        return {f"{self.name}, counting": lambda: self._count(query)}
+
+    def _count(self, query):
+        """How many paragraphs match, and the seconds that it takes to count them."""
+        start = time.perf_counter()
+        enquire = xapian.Enquire(self.database)
+        enquire.set_weighting_scheme(xapian.BoolWeight())
+        enquire.set_query(self.parser.parse_query(query, self.flags))
+        found = enquire.get_mset(0, 0, self.database.get_doccount()).get_matches_estimated()
+        return found, time.perf_counter() - start
+
+
+def xapian_query(match):
+    """A query of FTS5's as Xapian has it: `NEAR(a b, 1)` is `a NEAR/2 b` there, and all else is the same."""
+    near = re.fullmatch(r"NEAR\((\w+) (\w+), (\d+)\)", match)
+    return f"{near[1]} NEAR/{int(near[3]) + 1} {near[2]}" if near else match

@@ -2,7 +2,7 @@
 
 import math
 
-WIDTH, LEFT, RIGHT, TOP = 980, 330, 150, 64
+WIDTH, LEFT, RIGHT, TOP = 980, 330, 150, 84
 BAR, GAP = 15, 9
 COLOURS = {
     "ftq": "#2f6f9f",
@@ -10,6 +10,8 @@ COLOURS = {
     "BaseX, counting": "#dfb68c",
     "SQLite FTS5": "#6b8e23",
     "SQLite FTS5, counting": "#b9cc94",
+    "Xapian": "#8b2252",
+    "Xapian, counting": "#cf9fb5",
     "xmllint": "#7a6a9a",
 }
 
@@ -19,10 +21,12 @@ def escaped(text):
 
 
 def groups_of(rows):
-    """The questions that more than one program was asked, each with the programs and their milliseconds."""
+    """The questions that more than one program was asked, each with the programs and their milliseconds; the rows have what was asked, the program and
+    its seconds."""
     groups = {}
-    for what, program, seconds, _, _ in rows:
-        groups.setdefault(what, []).append((program, seconds * 1000))
+    for what, program, seconds in rows:
+        if program in COLOURS:
+            groups.setdefault(what, []).append((program, seconds * 1000))
     return {what: bars for what, bars in groups.items() if len(bars) > 1}
 
 
@@ -52,7 +56,7 @@ def picture(rows):
     parts = [
         f'<svg xmlns="http://www.w3.org/2000/svg" width="{WIDTH}" height="{height}" viewBox="0 0 {WIDTH} {height}" font-family="sans-serif" font-size="12">',
         f'<rect width="{WIDTH}" height="{height}" fill="white"/>',
-        f'<text x="{LEFT}" y="18" font-size="13">milliseconds (logarithmic axis: each line is ten times the one before)</text>',
+        f'<text x="{LEFT}" y="40" font-size="13">the least milliseconds (logarithmic axis: each line is ten times the one before)</text>',
         *legend([program for program in COLOURS if any(program == it for bars in groups.values() for it, _ in bars)]),
         *grid(axis, height),
     ]
@@ -76,11 +80,11 @@ def legend(programs):
 def grid(axis, height):
     for milliseconds, label in axis.ticks():
         x = axis.place(milliseconds)
-        yield f'<line x1="{x:.1f}" y1="44" x2="{x:.1f}" y2="{height - 8}" stroke="#cccccc"/>'
-        yield f'<text x="{x:.1f}" y="38" text-anchor="middle">{label}</text>'
+        yield f'<line x1="{x:.1f}" y1="64" x2="{x:.1f}" y2="{height - 8}" stroke="#cccccc"/>'
+        yield f'<text x="{x:.1f}" y="58" text-anchor="middle">{label}</text>'
 
 
 def bar(axis, y, program, milliseconds):
     end = axis.place(milliseconds)
-    yield f'<rect x="{LEFT}" y="{y}" width="{max(end - LEFT, 1):.1f}" height="{BAR - 3}" fill="{COLOURS.get(program, "#888888")}"/>'
-    yield f'<text x="{end + 5:.1f}" y="{y + BAR - 5}" font-size="11">{program} {milliseconds:,.1f}</text>'
+    yield f'<rect x="{LEFT}" y="{y}" width="{max(end - LEFT, 1):.1f}" height="{BAR - 3}" fill="{COLOURS[program]}"/>'
+    yield f'<text x="{end + 5:.1f}" y="{y + BAR - 5}" font-size="11">{program} {milliseconds:,.2f}</text>'
