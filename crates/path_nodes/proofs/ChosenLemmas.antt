@@ -10,8 +10,8 @@ use Rattle.plain_tree.specs.Document.{Node, element, text, Nodes, no_nodes, node
 use Rattle.path_meaning.specs.Elements as el
 use Rattle.path_meaning.specs.Elements.{Element, placed, elements_among, element_children, elements_from, elements_below, elements, kids_of, is_same, is_in}
 use Rattle.path_grammar.specs.Form as form
-use Rattle.path_grammar.specs.Form.{Step, step, Predicate, Predicates, no_predicates, predicate_then}
-use Rattle.path_meaning.specs.Meaning.{is_named, filtered, filtered_by, is_true, stepped, item}
+use Rattle.path_grammar.specs.Form.{Step, step, Steps, no_steps, step_then, Predicate, Predicates, no_predicates, predicate_then}
+use Rattle.path_meaning.specs.Meaning.{is_named, filtered, filtered_by, is_true, led, stepped, item}
 use Rattle.path_meaning.proofs.Lists.{filter-filter, filter-alike}
 use Rattle.ordered_tree.specs.Numbered.{Numbered, element_at, text_at, Children, no_children, child_then, plain, plain_children, first_of, is_element}
 use Rattle.ordered_tree.specs.Stands.{round_root, round_first, round_next}
@@ -212,3 +212,15 @@ stepped-is root m s deep test ps cs is =
     ∙ ap (λ ls. filter (is_in ls) (elements (plain root))) (sym (map-map root m deep test ps (parents deep cs)))
     ∙ ap (λ ls. filter (is_in (map (λ items. filtered (satisfied root m) (elements (plain root)) ps (filter (λ e. is_named test e.node) items)) ls)) (elements (plain root))) (sym (lists-are deep cs))
     ∙ ap (λ t. stepped (satisfied root m) (elements (plain root)) t (map item cs)) (sym is)
+
+-- it stands below what the contexts stand below
+module _ (root : Numbered) (m : Meaning) (r : NodeRef) (x : IsElement root r) where
+  pub stepped-inside : (s : Step) (cs : List Element) → All (AtOrBelow (element_of root r)) cs → All (AtOrBelow (element_of root r)) (stepped (satisfied root m) (elements (plain root)) s (map item cs))
+  stepped-inside (step deep test ps) cs h =
+      subst (All (AtOrBelow (element_of root r))) (stepped-is root m (step deep test ps) deep test ps cs refl)
+      (chosen-inside root m (step deep test ps) r x (parents deep cs) (parents-inside (element_of root r) deep cs h))
+
+  pub led-inside : (ss : Steps) (cs : List Element) → All (AtOrBelow (element_of root r)) cs → All (AtOrBelow (element_of root r)) (led (satisfied root m) (elements (plain root)) ss cs)
+  unfolding led
+  led-inside no_steps cs h = h
+  led-inside (step_then s rest) cs h = led-inside rest (stepped (satisfied root m) (elements (plain root)) s (map item cs)) (stepped-inside s cs h)

@@ -3,7 +3,7 @@ use Rattle.std.proofs.Common.{◌≡◌, ◌<◌, ◌+◌, ◌||◌, ◌&&◌, �
 use Rattle.std.specs.HashSet.{HashSet}
 use Rattle.std.specs.List.{All, list_any}
 use Rattle.std.proofs.lemmas.List.{map-append}
-use Rattle.std.proofs.lemmas.List.Elements.{All-head, All-tail, All-map, All-push}
+use Rattle.std.proofs.lemmas.List.Elements.{All-head, All-tail, All-push}
 use Rattle.std.proofs.lemmas.Slice.Eq.{bytes_eq-Decides}
 use Rattle.path_grammar.specs.Form as form
 use Rattle.path_grammar.specs.View.{step, relative_path}
@@ -127,9 +127,8 @@ module _ (root : Numbered) (m : Meaning) (e : Element) (paths : List RelativePat
       (lead-found root found there after closed marked r y x h)
       (λ was. more r (lead r y x h was))
 
-  pub inside-more : (base : Element) → All (λ r. AtOrBelow base (element_of root r)) found → All (All (AtOrBelow base)) (led_by root m e (take i paths))
+  pub inside-more : (base : Element) → All (AtOrBelow base) (leads (steps_of (get_or paths i d))) → All (All (AtOrBelow base)) (led_by root m e (take i paths))
       → All (All (AtOrBelow base)) (led_by root m e (take (i + 1) paths))
-  inside-more base inside were =
-      let one : All (AtOrBelow base) (leads (steps_of (get_or paths i d))) = subst (All (AtOrBelow base)) is (All-map (AtOrBelow base) (element_of root) found inside) in
+  inside-more base one were =
       subst (All (All (AtOrBelow base))) (sym (ap (map leads) (map-more steps_of paths i d lt) ∙ map-append leads (map steps_of (take i paths)) (steps_of (get_or paths i d) ∷ [])))
       (All-push (All (AtOrBelow base)) (led_by root m e (take i paths)) (leads (steps_of (get_or paths i d))) were one)

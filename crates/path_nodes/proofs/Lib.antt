@@ -21,6 +21,8 @@ pub mod AlikeLemmas
 pub mod TestLemmas
 pub mod PriceLemmas
 pub mod CostLemmas
+pub mod AskingLemmas
+pub mod FoundLemmas
 pub mod OrderLemmas
 pub mod OfferedLemmas
 pub mod OutermostLemmas

@@ -4,13 +4,15 @@ use Rattle.std.proofs.Common.{◌≡◌, ◌+◌, ◌<◌, ℕ, zero, suc, Bool,
 use Rattle.std.proofs.lemmas.List.{drop_more, map-append}
 use Rattle.path_meaning.specs.Elements.{Element, element_children}
 use Rattle.path_grammar.specs.Form as form
-use Rattle.path_meaning.specs.Meaning.{item, children, lists, led, stepped, filtered, filtered_by, is_true, some_true, each_true, some_element}
-use Rattle.path_grammar.specs.View.{step, predicate, condition}
+use Rattle.path_meaning.specs.Meaning.{item, children, ignored, lists, led, stepped, filtered, filtered_by, is_true, some_true, each_true, some_element}
+use Rattle.path_grammar.specs.View.{step, predicate, condition, relative_path}
 use Rattle.path_grammar.specs.declared.path.Step.{Step}
 use Rattle.path_grammar.specs.declared.path.Predicate.{Predicate}
 use Rattle.path_grammar.specs.declared.path.Condition.{Condition}
+use Rattle.path_grammar.specs.declared.path.RelativePath.{RelativePath}
 use Rattle.path_nodes.specs.steps.Kept.{is_number, joined, parents, passes, passes_by, some_number}
 use Rattle.path_nodes.specs.steps.Regions.{at_or_below}
+use Rattle.path_nodes.proofs.ListLemmas.{or-nothing}
 
 -- a truth that was compared with another is that one, or it isn't
 compared : (truth b equal : Bool) → beq truth b ≡ equal → truth ≡ cond equal b (not b)
@@ -35,6 +37,18 @@ module _ (sat : ℕ → List Element → Element → Bool) (all : List Element) 
   unfolding filtered
   filtered-next xs i d lt items new e =
       ap (filtered sat all (form.predicates (map predicate (drop (i + 1) xs)))) e ∙ sym (ap (λ l. filtered sat all (form.predicates (map predicate l)) items) (drop_more xs i d lt))
+
+  -- ---- no steps lead from an element to itself, and no paths are ignored
+
+  pub of-itself : (k : ℕ) (e : Element) (steps : List Step) (paths : List RelativePath) → steps ≡ [] → paths ≡ []
+      → sat k [] e ≡ is_true sat all (form.contains (form.steps (map step steps)) k (form.paths (map relative_path paths))) e
+  unfolding is_true led ignored
+  of-itself k e steps paths stay plain =
+      sym (
+      ap (λ l. is_true sat all (form.contains (form.steps (map step l)) k (form.paths (map relative_path paths))) e) stay
+      ∙ ap (λ l. is_true sat all (form.contains form.no_steps k (form.paths (map relative_path l))) e) plain
+      ∙ or-nothing false (sat k [] e)
+      )
 
   -- ---- nothing is kept of nothing
 

@@ -1,5 +1,5 @@
 -- A walk that stops at one element more, and one that goes past an element.
-use Rattle.std.proofs.Common.{◌≡◌, ◌<◌, ◌≤◌, ◌+◌, ℕ, suc, Bool, true, false, List, [], ◌∷◌, ◌++◌, map, filter, flat_map, if◌then◌else◌, refl, sym, ap, ◌∙◌, subst, arith, append_assoc, append-nil}
+use Rattle.std.proofs.Common.{◌≡◌, ◌<◌, ◌+◌, ℕ, suc, Bool, true, false, List, [], ◌∷◌, ◌++◌, map, filter, flat_map, if◌then◌else◌, refl, sym, ap, ◌∙◌, subst, arith, append_assoc, append-nil}
 use Rattle.std.specs.List.{All, sum_by}
 use Rattle.std.proofs.lemmas.List.{map-append, reverse-append}
 use Rattle.std.proofs.lemmas.List.Elements.{All-nil, All-cons, filter-append}
@@ -10,10 +10,12 @@ use Rattle.path_grammar.specs.Form.{Predicates}
 use Rattle.path_meaning.specs.Elements.{Element, elements, element_children}
 use Rattle.path_meaning.specs.Meaning.{filtered}
 use Rattle.plain_tree.specs.Document.{Node, element, text}
+use Rattle.std.specs.Borrow.{MutBor}
 use Rattle.path_nodes.specs.Prices.{predicates_price}
 use Rattle.path_nodes.specs.References.{IsElement, element_of}
 use Rattle.path_nodes.specs.Says.{Meaning, satisfied}
 use Rattle.path_nodes.specs.declared.offering.Stop.{Stop}
+use Rattle.path_nodes.specs.steps.Found.{Spends, SpendsOf}
 use Rattle.path_nodes.specs.steps.Kept.{offered, offered_from, passes, some_number}
 use Rattle.path_nodes.specs.steps.Offered.{itself, offered_at, to_come}
 use Rattle.path_nodes.specs.steps.RuledOut.{KeepNoneUnder, Suffice}
@@ -179,11 +181,11 @@ module _ (root : Numbered) (m : Meaning) (ps : Predicates) (none : some_number p
         ∙ ap (λ l. map (element_of root) found ++ l) (sym (kept-parts root m ps none (e ∷ []) rest) ∙ enough.kept)
         ∙ done
 
-    pub cost-here : (now end bound : ℕ) → end ≤ now + costs (element_of root here ∷ []) → now + costs before ≤ bound → end + costs rest ≤ bound
-    cost-here now end bound spent done =
+    pub cost-here : {T : Type 0} {cost : T → ℕ} {first now end : MutBor T} {bound : ℕ} → Spends cost now end (costs (element_of root here ∷ [])) → SpendsOf cost first now (costs before) bound → SpendsOf cost first end (costs rest) bound
+    cost-here spent done =
         let parts = price-parts root m ps none (element_of root here ∷ []) rest in
         let less = enough.price in
-        omega (arith, parts, less, spent, done)
+        record { same = spent.same ∙ done.same; within = omega arith }
 
   pub kept-last : (before : List Element) → Suffice root m ps [] before → (found : List NodeRef) (total : List Element) → map (element_of root) found ++ keeps before ≡ total → map (element_of root) found ≡ total
   kept-last before enough found total done =

@@ -36,9 +36,6 @@ sum-next f g xs i d lt = ap (λ l. sum_by f (map g l)) (drop_more xs i d lt) ∙
 sum-assoc : (a b c : ℕ) → (a + b) + c ≡ a + (b + c)
 sum-assoc a b c = omega arith
 
-sum-without : (a b c all : ℕ) → b ≡ 0 → a + (b + c) ≡ all → a + c ≡ all
-sum-without a b c all h i = omega arith
-
 -- ---- the price of a part and of the rest
 
 module _ (root : Numbered) (m : Meaning) where
@@ -128,12 +125,15 @@ module _ (root : Numbered) (m : Meaning) where
       ∙ sum-assoc (price_of root m first) (price_of root m left) (price_of root m tested)
       )
 
-  -- the same where nothing is ignored
-  pub plain-price : (s : form.Steps) (k : ℕ) (e : Element)
-      → steps_price root m s (e ∷ []) + price_of root m (each_tested k (led (satisfied root m) (elements (plain root)) s (e ∷ [])))
-      ≡ condition_price root m (form.contains s k form.no_paths) e
-  unfolding ignored_tests
-  plain-price s k e = sum-without _ _ _ _ price-none (contains-price s k form.no_paths e)
+  -- the same of the element itself, where nothing is ignored
+  pub itself-price : (k : ℕ) (e : Element) (steps : List Step) (paths : List RelativePath) → steps ≡ [] → paths ≡ []
+      → price_of root m (each_tested k (e ∷ [])) ≡ condition_price root m (form.contains (form.steps (map step steps)) k (form.paths (map relative_path paths))) e
+  unfolding condition_tests steps_tests ignored_tests led
+  itself-price k e steps paths stay plain =
+      sym (
+      ap (λ l. condition_price root m (form.contains (form.steps (map step l)) k (form.paths (map relative_path paths))) e) stay
+      ∙ ap (λ l. condition_price root m (form.contains form.no_steps k (form.paths (map relative_path l))) e) plain
+      )
 
   -- a condition of each item
   pub price-holds : (c : form.Condition) (items : List Element) → sum_by (condition_price root m c) items ≡ predicate_price root m (form.holds c) items

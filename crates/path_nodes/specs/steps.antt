@@ -1,4 +1,5 @@
 pub mod Kept
+pub mod Found
 pub mod Known
 pub mod Leading
 pub mod Lent

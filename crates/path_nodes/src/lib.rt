@@ -3,19 +3,22 @@
 
 mod attributes;
 mod children;
+mod conditions;
 mod contains_text;
-mod evaluating;
+mod evaluation;
 mod kept;
-mod known;
 mod leading;
 mod marks;
 mod names;
 mod numbers;
 mod offering;
 mod outermost;
+mod predicates;
 mod ruling_out;
 mod selected;
 mod skipping;
+mod steps;
+mod texts;
 mod walks;
 mod without_holes;
 

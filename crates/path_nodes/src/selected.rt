@@ -1,21 +1,20 @@
-ghost use Rattle.std.specs.Prelude.{◌≡◌, ◌≤◌, ◌+◌, ◌∷◌, [], ℕ, All, Bool, IfOk, List, OnOk, false, map, true};
+ghost use Rattle.std.specs.Prelude.{◌≡◌, ◌<◌, ◌≤◌, ◌+◌, ◌∷◌, [], ℕ, All, Bool, IfOk, List, false, length, map, true};
 ghost use Rattle.ordered_tree.specs.Numbered.{is_element, plain};
 ghost use Rattle.path_meaning.specs.Elements.{Element, elements, placed};
 ghost use Rattle.path_grammar.specs.Form as form;
 ghost use Rattle.path_meaning.specs.Meaning as meaning;
 ghost use Rattle.path_grammar.specs.View as view;
 ghost use Rattle.path_grammar.specs.Without.{has_without};
-ghost use Rattle.path_nodes.specs.Asked.{OfEach, OfStep, MayAsk};
-ghost use Rattle.path_nodes.specs.steps.Known.{AreRight};
+ghost use Rattle.path_nodes.specs.Asked.{OfEach, MayAsk};
+ghost use Rattle.path_nodes.specs.steps.Found.{ReferTo, Spends};
 ghost use Rattle.path_nodes.specs.steps.Leading.{StandFrom, in_path, in_step};
 ghost use Rattle.path_nodes.specs.Prices.{price_of, step_price, total_price};
 ghost use Rattle.path_nodes.specs.References.{IsElement, element_of};
 ghost use Rattle.path_nodes.specs.Says.{Agrees, Costs, satisfied};
 ghost use Rattle.path_meaning.specs.Tests.{selected_tests};
 
-use crate::evaluating::{kept, led, stepped};
+use crate::evaluation::{Evaluation, Ground, Truths};
 use crate::kept::append;
-use crate::known::Known;
 use crate::leading::after_step;
 use crate::ruling_out::lead_nowhere;
 use crate::without_holes::WithoutHoles;
@@ -24,6 +23,7 @@ use ft_base::Memory;
 use ordered_tree::{DocTree, NodeRef};
 use path_grammar::{Step, Steps};
 use std::alloc::Global;
+use std::marker::{Brand, PhantomData};
 
 /// The elements of a document to which steps lead from it, in document order, each once. `contains text` is answered by the
 /// test, which is asked only as long as the truth isn't known. Elements are gone past, with all below them, where it rules out what the
@@ -91,53 +91,77 @@ pub fn nodes_without<T: HoleTest>(
     if lead_nowhere(tree, steps, test) {
         return Ok(Vec::new(alloc));
     }
-    // Nothing of a document without an answer is read, not even where its root is.
-    let root = tree.root();
-    let mut known = Known::new(alloc, steps);
-    let step = steps.get(0);
-    let number = after_step(0, step)?;
-    let first = from_document(tree, step, root, test, &mut known)?;
-    let found = led(
-        tree,
-        &steps.as_slice()[1..],
-        number,
-        root,
-        first,
-        test,
-        &mut known,
-    )?;
+    let found = selected_with::<T, Brand>(alloc, steps, tree, test)?;
     Ok(found.into_vec())
 }
 
-/// The elements to which a step leads from the document, whose only child is the root.
-fn from_document<T: HoleTest>(
+/// The elements to which steps lead from a document, where proofs know what they are evaluated over.
+fn selected_with<T: HoleTest, G: Ground>(
+    alloc: Global,
+    steps: &Steps,
     tree: &DocTree,
-    step: &Step,
-    root: NodeRef,
     test: &mut T,
-    known: &mut Known,
 ) -> Result<Nodes, Memory>
-    requires root { IsElement tree.now.root root }
-    requires first { element_of tree.now.root root ≡ placed [] (plain tree.now.root) }
-    requires asked { OfStep (MayAsk tree.now.root (T.meaning test.old)) (view.step step.now) }
-    requires numbered { StandFrom (in_path known.old.path.now) 0 (in_step (view.step step.now)) }
-    requires known { AreRight tree.now.root (T.meaning test.old) (in_path known.old.path.now) known.old.truths }
-    ensures elements { IfOk result (λ found. map (element_of tree.now.root) found
-        ≡ meaning.stepped (satisfied tree.now.root (T.meaning test.old)) (elements (plain tree.now.root)) (view.step step.now)
-        (meaning.document (plain tree.now.root) ∷ [])) }
-    ensures there { IfOk result (All (IsElement tree.now.root)) }
-    ensures meaning { T.meaning test.new ≡ T.meaning test.old }
-    ensures path { known.new.path ≡ known.old.path }
-    ensures known { OnOk result (AreRight tree.now.root (T.meaning test.old) (in_path known.old.path.now) known.new.truths) }
+    requires root { tree.now.root ≡ G.root }
+    requires element { is_element G.root ≡ true }
+    requires meaning { T.meaning test.old ≡ G.meaning }
+    requires conditions { in_path steps.now ≡ G.conditions }
+    requires asked { OfEach (MayAsk G.root G.meaning) (form.steps (map view.step steps.now)) }
+    requires some { 0 < length steps.now }
+    ensures elements { IfOk result (ReferTo G.root
+        (meaning.selected (satisfied G.root G.meaning) (form.steps (map view.step steps.now)) (plain G.root))) }
+    ensures meaning { T.meaning test.new ≡ G.meaning }
     ensures cost { T.cost test.new
-        ≤ T.cost test.old + step_price tree.now.root (T.meaning test.old) (view.step step.now) (meaning.document (plain tree.now.root) ∷ []) }
+        ≤ T.cost test.old
+        + price_of G.root G.meaning (selected_tests (satisfied G.root G.meaning) (form.steps (map view.step steps.now)) (plain G.root)) }
 {
-    let only = Nodes::from_slice(known.alloc, &[root])?;
-    let mut found = kept(tree, step, 0, &only, test, known)?;
-    if !step.deep {
-        return Ok(found);
+    let mut truths = Truths::new(alloc);
+    let mut evaluation: Evaluation<'_, '_, '_, T, G> = Evaluation {
+        alloc,
+        tree,
+        test,
+        truths: &mut truths,
+        inside: false,
+        ground: PhantomData,
+    };
+    evaluation.selected(steps)
+}
+
+impl<'d, 't, 'k, T: HoleTest, G: Ground> Evaluation<'d, 't, 'k, T, G> {
+    /// The elements to which the path's steps lead from the document.
+    fn selected(&mut self, steps: &Steps) -> Result<Nodes, Memory>
+        requires element { is_element G.root ≡ true }
+        requires conditions { in_path steps.now ≡ G.conditions }
+        requires some { 0 < length steps.now }
+        ensures elements { IfOk result (ReferTo G.root
+            (meaning.selected (satisfied G.root G.meaning) (form.steps (map view.step steps.now)) (plain G.root))) }
+        ensures cost { Spends T.cost self.old.test self.new.test (price_of G.root G.meaning
+            (selected_tests (satisfied G.root G.meaning) (form.steps (map view.step steps.now)) (plain G.root))) }
+    {
+        let root = self.tree.root();
+        let step = steps.get(0);
+        let number = after_step(0, step)?;
+        let first = self.from_document(step, root)?;
+        self.led(&steps.as_slice()[1..], number, root, first)
     }
-    let below = stepped(tree, step, 0, root, only, test, known)?;
-    append(&mut found, &below)?;
-    Ok(found)
+
+    /// The elements to which a step leads from the document, whose only child is the root.
+    fn from_document(&mut self, step: &Step, root: NodeRef) -> Result<Nodes, Memory>
+        requires root { IsElement G.root root }
+        requires first { element_of G.root root ≡ placed [] (plain G.root) }
+        requires numbered { StandFrom G.conditions 0 (in_step (view.step step.now)) }
+        ensures elements { IfOk result (ReferTo G.root (meaning.stepped (satisfied G.root G.meaning) (elements (plain G.root))
+            (view.step step.now) (meaning.document (plain G.root) ∷ []))) }
+        ensures cost { Spends T.cost self.old.test self.new.test
+            (step_price G.root G.meaning (view.step step.now) (meaning.document (plain G.root) ∷ [])) }
+    {
+        let only = Nodes::from_slice(self.alloc, &[root])?;
+        let mut found = self.kept(step, 0, &only)?;
+        if !step.deep {
+            return Ok(found);
+        }
+        let below = self.stepped(step, 0, root, only)?;
+        append(&mut found, &below)?;
+        Ok(found)
+    }
 }

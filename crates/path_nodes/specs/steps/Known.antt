@@ -3,9 +3,10 @@ use Rattle.std.specs.Prelude.{◌≡◌, ℕ, nat_eq, Bool, ◌&&◌, List, [], 
 use Rattle.std.specs.HashMap.{HashMap, get}
 use Rattle.ordered_tree.specs.Numbered.{Numbered, plain}
 use Rattle.ft_base.specs.declared.ids.NodeRef.{NodeRef}
-use Rattle.path_grammar.specs.Form.{Condition}
+use Rattle.path_grammar.specs.Form.{Condition, Paths, Steps, contains}
 use Rattle.path_meaning.specs.Elements.{elements}
 use Rattle.path_meaning.specs.Meaning.{is_true}
+use Rattle.path_nodes.specs.Asked.{MayAsk}
 use Rattle.path_nodes.specs.steps.Leading.{StandFrom}
 use Rattle.path_nodes.specs.References.{element_of}
 use Rattle.path_nodes.specs.Says.{Meaning, satisfied}
@@ -18,8 +19,16 @@ is_same_pair p q = nat_eq p.0 q.0 && nat_eq p.1 q.1
 abbrev pub known_truth : {S : Type 0} → HashMap (ℕ × ℕ) Bool S → ℕ → NodeRef → Option Bool
 known_truth truths number r = get is_same_pair truths (number, r.0)
 
+-- It is the truth of the condition of a number at a node.
+abbrev pub IsTruth : Numbered → Meaning → List Condition → ℕ → NodeRef → Bool → Type 0
+IsTruth root m conditions number r truth =
+    (condition : Condition) → StandFrom conditions number (condition ∷ []) → truth ≡ is_true (satisfied root m) (elements (plain root)) condition (element_of root r)
+
 -- Each truth that is known is the condition's.
 abbrev pub AreRight : {S : Type 0} → Numbered → Meaning → List Condition → HashMap (ℕ × ℕ) Bool S → Type 0
-AreRight root m conditions truths = (number : ℕ) (condition : Condition) (r : NodeRef) (truth : Bool)
-    → StandFrom conditions number (condition ∷ []) → known_truth truths number r ≡ Some truth
-    → truth ≡ is_true (satisfied root m) (elements (plain root)) condition (element_of root r)
+AreRight root m conditions truths = (number : ℕ) (r : NodeRef) (truth : Bool) → known_truth truths number r ≡ Some truth → IsTruth root m conditions number r truth
+
+-- The test may be asked for the selection of each condition.
+abbrev pub AreAsked : Numbered → Meaning → List Condition → Type 0
+AreAsked root m conditions =
+    (number : ℕ) (steps : Steps) (selection : ℕ) (paths : Paths) → StandFrom conditions number (contains steps selection paths ∷ []) → MayAsk root m selection

@@ -5,7 +5,7 @@ use Rattle.path_grammar.specs.Form as form
 use Rattle.path_grammar.specs.View as view
 use Rattle.path_nodes.specs.steps.Kept.{some_number, has_number}
 use Rattle.path_nodes.proofs.AskedLemmas.{step-is}
-use Rattle.path_nodes.proofs.evaluating.has_number.Goals as goal
+use Rattle.path_nodes.proofs.steps.has_number.Goals as goal
 
 pub loop-predicate-init : goal.loop-predicate-init
 loop-predicate-init c = ap (λ l. some_number (form.predicates (map view.predicate l))) c.as_slice-predicate-items.ensures ∙ sym (ap has_number (step-is c.args.step.now))

@@ -12,7 +12,7 @@ use Rattle.path_nodes.proofs.ListLemmas.{any-drop}
 use Rattle.path_nodes.proofs.PriceLemmas.{nodes-next, one-price}
 use Rattle.path_nodes.proofs.CostLemmas.{cost-next, cost-part}
 use Rattle.path_nodes.proofs.SpotLemmas.{of_number}
-use Rattle.path_nodes.proofs.evaluating.some_contains.Goals as goal
+use Rattle.path_nodes.proofs.evaluation.Evaluation.some_contains.Goals as goal
 
 -- the next node
 module _ (root : Numbered) (m : Meaning) (k i : ℕ) (xs ys : List NodeRef) (same : xs ≡ ys) (lt : i < length xs) (all : All (IsElement root) ys) where
@@ -27,18 +27,15 @@ module _ (root : Numbered) (m : Meaning) (k i : ℕ) (xs ys : List NodeRef) (sam
 
 pub contains_without-requires-clause-item : goal.contains_without-requires-clause-item
 contains_without-requires-clause-item g c =
-    there c.args.tree.now.root (g.T.TextTest.meaning c.args.test.now) c.args.selection c.loop-node.node-index c.as_slice-node-items.result.now c.args.nodes.now c.as_slice-node-items.ensures c.loop-node-test.true c.requires.nodes
-
-pub contains_without-requires-clause-asked : goal.contains_without-requires-clause-asked
-contains_without-requires-clause-asked g c = rw c.loop-node.invariant.meaning c.requires.asked
+    there g.G.Ground.root g.G.Ground.meaning c.args.selection c.loop-node.node-index c.as_slice-node-items.result.now c.args.nodes.now c.as_slice-node-items.ensures c.loop-node-test.true c.requires.nodes
 
 pub returns-then-branch-clause-truth : goal.returns-then-branch-clause-truth
 returns-then-branch-clause-truth g c =
-    let root = c.args.tree.now.root in
-    let test = satisfied root (g.T.TextTest.meaning c.args.test.now) c.args.selection (map (element_of root) c.args.holes.now) in
+    let root = g.G.Ground.root in
+    let test = satisfied root g.G.Ground.meaning c.args.selection (map (element_of root) c.args.holes.now) in
     let items = c.as_slice-node-items.result.now in
     let i = c.loop-node.node-index in
-    let says = sym (rw c.loop-node.invariant.meaning at c.in_ok-contains_without.ensures.truth) ∙ c.if-branch.true in
+    let says = sym c.in_ok-contains_without.ensures.truth ∙ c.if-branch.true in
     sym (
     sym c.loop-node.invariant.left
     ∙ any-drop (element_of root) test items i (of_number 0) c.loop-node-test.true
@@ -47,27 +44,26 @@ returns-then-branch-clause-truth g c =
 
 pub loop-node-preserved : goal.loop-node-preserved
 loop-node-preserved g c =
-    let root = c.args.tree.now.root in
-    let m = g.T.TextTest.meaning c.args.test.now in
+    let root = g.G.Ground.root in
+    let m = g.G.Ground.meaning in
     let k = c.args.selection in
     let test = satisfied root m k (map (element_of root) c.args.holes.now) in
     let items = c.as_slice-node-items.result.now in
     let i = c.loop-node.node-index in
     let within = c.loop-node-test.true in
-    let says = sym (rw c.loop-node.invariant.meaning at c.in_ok-contains_without.ensures.truth) ∙ c.if-branch.false in
+    let says = sym c.in_ok-contains_without.ensures.truth ∙ c.if-branch.false in
     record {
       left = sym (any-drop (element_of root) test items i (of_number 0) within ∙ ap (λ b. b || list_any test (map (element_of root) (drop (i + 1) items))) says) ∙ c.loop-node.invariant.left;
-      meaning = c.contains_without.ensures.meaning ∙ c.loop-node.invariant.meaning;
-      cost = cost-next _ _ _ _ _ _ (rw c.loop-node.invariant.meaning at c.contains_without.ensures.cost) c.loop-node.invariant.cost
+      cost = cost-next c.contains_without.ensures.cost c.loop-node.invariant.cost
           (price root m k i items c.args.nodes.now c.as_slice-node-items.ensures within c.requires.nodes);
     }
 
 pub returns-in_err-contains_without-clause-cost : goal.returns-in_err-contains_without-clause-cost
 returns-in_err-contains_without-clause-cost g c =
-    cost-part _ _ _ _ _ _ (rw c.loop-node.invariant.meaning at c.contains_without.ensures.cost) c.loop-node.invariant.cost
-    (price c.args.tree.now.root (g.T.TextTest.meaning c.args.test.now) c.args.selection c.loop-node.node-index c.as_slice-node-items.result.now c.args.nodes.now c.as_slice-node-items.ensures c.loop-node-test.true c.requires.nodes)
+    cost-part _ c.contains_without.ensures.cost c.loop-node.invariant.cost
+    (price g.G.Ground.root g.G.Ground.meaning c.args.selection c.loop-node.node-index c.as_slice-node-items.result.now c.args.nodes.now c.as_slice-node-items.ensures c.loop-node-test.true c.requires.nodes)
 
 pub returns-then-branch-clause-cost : goal.returns-then-branch-clause-cost
 returns-then-branch-clause-cost g c =
-    cost-part _ _ _ _ _ _ (rw c.loop-node.invariant.meaning at c.contains_without.ensures.cost) c.loop-node.invariant.cost
-    (price c.args.tree.now.root (g.T.TextTest.meaning c.args.test.now) c.args.selection c.loop-node.node-index c.as_slice-node-items.result.now c.args.nodes.now c.as_slice-node-items.ensures c.loop-node-test.true c.requires.nodes)
+    cost-part _ c.contains_without.ensures.cost c.loop-node.invariant.cost
+    (price g.G.Ground.root g.G.Ground.meaning c.args.selection c.loop-node.node-index c.as_slice-node-items.result.now c.args.nodes.now c.as_slice-node-items.ensures c.loop-node-test.true c.requires.nodes)

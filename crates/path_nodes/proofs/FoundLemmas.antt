@@ -1,0 +1,26 @@
+-- What an evaluation finds.
+use Rattle.std.proofs.Common.{◌≡◌, List, ◌∷◌, [], Result, Ok, Err, IfOk, map}
+use Rattle.std.specs.List.{All}
+use Rattle.std.proofs.lemmas.List.Elements.{All-nil, All-cons}
+use Rattle.ordered_tree.specs.Numbered.{Numbered}
+use Rattle.ft_base.specs.declared.ids.NodeRef.{NodeRef}
+use Rattle.path_meaning.specs.Elements.{Element}
+use Rattle.path_nodes.specs.References.{IsElement, element_of}
+use Rattle.path_nodes.specs.steps.Found.{AreBelow, ReferTo}
+use Rattle.path_nodes.specs.steps.Within.{AtOrBelow}
+use Rattle.path_nodes.proofs.OrderLemmas.{one-ordered}
+use Rattle.path_nodes.proofs.PrefixLemmas.{prefix-itself}
+
+pub refer-ok : {E : Type 0} (root : Numbered) (es : List Element) (r : Result (List NodeRef) E) → IfOk r (All (IsElement root)) → IfOk r (λ found. map (element_of root) found ≡ es) → IfOk r (ReferTo root es)
+refer-ok root es (Ok found) there are = record { there = there; are = are }
+refer-ok root es (Err e) there are = tt
+
+pub one-below : (root : Numbered) (item : NodeRef) → IsElement root item → AreBelow root item (item ∷ [])
+one-below root item x =
+    let e = element_of root item in
+    record {
+      base_is = x;
+      there = All-cons (IsElement root) item [] x (All-nil (IsElement root));
+      inside = All-cons (AtOrBelow e) e [] (prefix-itself e.place) (All-nil (AtOrBelow e));
+      ordered = one-ordered e;
+    }
