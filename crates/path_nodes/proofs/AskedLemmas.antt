@@ -37,12 +37,6 @@ module _ (P : ℕ → Type 0) where
   nth-condition (x ∷ xs) zero d lt h = h.0
   nth-condition (x ∷ xs) (suc i) d lt h = nth-condition xs i d (omega (arith, lt)) h.1
 
-  pub nth-path : (xs : List RelativePath) (i : ℕ) (d : RelativePath) → i < length xs → OfPaths P (form.paths (map relative_path xs)) → OfEach P (form.steps (map step (out-RelativePath (get_or xs i d)).steps))
-  unfolding OfPaths
-  nth-path [] i d lt h = absurd (omega (arith, lt))
-  nth-path (x ∷ xs) zero d lt h = subst (OfEach P) (path-is x) h.0
-  nth-path (x ∷ xs) (suc i) d lt h = nth-path xs i d (omega (arith, lt)) h.1
-
 -- what holds of every number holds of those for which steps ask
 mutual
   unfolding OfEach

@@ -26,9 +26,10 @@ module _ (path : List form.Condition) (P : ℕ → Type 0) (asked : (n : ℕ) (s
 
     pub of-predicates : (ps : form.Predicates) (n : ℕ) → StandFrom path n (in_predicates ps) → OfPredicates P ps
     of-predicates form.no_predicates n h = tt
-    of-predicates (form.predicate_then p rest) n h =
-        (of-predicate p n (stand-first (in_predicate p) (in_predicates rest) _ refl path n h),
-        of-predicates rest (n + length (in_predicate p)) (stand-next (in_predicate p) (in_predicates rest) _ refl path n h _ refl))
+    of-predicates (form.predicate_then p rest) n h = (
+      of-predicate p n (stand-first (in_predicate p) (in_predicates rest) _ refl path n h),
+      of-predicates rest (n + length (in_predicate p)) (stand-next (in_predicate p) (in_predicates rest) _ refl path n h _ refl),
+    )
 
     of-predicate : (p : form.Predicate) (n : ℕ) → StandFrom path n (in_predicate p) → OfPredicate P p
     of-predicate (form.number k) n h = tt
@@ -42,15 +43,18 @@ module _ (path : List form.Condition) (P : ℕ → Type 0) (asked : (n : ℕ) (s
     of-condition (form.exists s) n h = of-steps s (n + 1) (stand-inside path n (n + 1) (form.exists s) (in_steps s) h refl)
     of-condition (form.contains s k ps) n h =
         let c = form.contains s k ps in
-        let inside = stand-inside path n (n + 1) c (in_paths ps ++ in_steps s) h refl in
-        (of-steps s (n + 1 + length (in_paths ps)) (stand-next (in_paths ps) (in_steps s) _ refl path (n + 1) inside _ refl),
-        asked n s k ps (stand-itself path n c (in_paths ps ++ in_steps s) h), of-paths ps (n + 1) (stand-first (in_paths ps) (in_steps s) _ refl path (n + 1) inside))
+        let inside = stand-inside path n (n + 1) c (in_paths ps ++ in_steps s) h refl in (
+          of-steps s (n + 1 + length (in_paths ps)) (stand-next (in_paths ps) (in_steps s) _ refl path (n + 1) inside _ refl),
+          asked n s k ps (stand-itself path n c (in_paths ps ++ in_steps s) h),
+          of-paths ps (n + 1) (stand-first (in_paths ps) (in_steps s) _ refl path (n + 1) inside),
+        )
 
     of-conditions : (cs : form.Conditions) (n : ℕ) → StandFrom path n (in_conditions cs) → OfConditions P cs
     of-conditions form.no_conditions n h = tt
-    of-conditions (form.condition_then c rest) n h =
-        (of-condition c n (stand-first (in_condition c) (in_conditions rest) _ refl path n h),
-        of-conditions rest (n + length (in_condition c)) (stand-next (in_condition c) (in_conditions rest) _ refl path n h _ refl))
+    of-conditions (form.condition_then c rest) n h = (
+      of-condition c n (stand-first (in_condition c) (in_conditions rest) _ refl path n h),
+      of-conditions rest (n + length (in_condition c)) (stand-next (in_condition c) (in_conditions rest) _ refl path n h _ refl),
+    )
 
     of-paths : (ps : form.Paths) (n : ℕ) → StandFrom path n (in_paths ps) → OfPaths P ps
     of-paths form.no_paths n h = tt

@@ -3,7 +3,7 @@ use Rattle.std.proofs.Common.{◌≡◌, ◌+◌, ◌==◌, ℕ, zero, suc, Bool
 use Rattle.std.specs.List.{All, Contains, list_any}
 use Rattle.std.proofs.lemmas.Bool.{cases_lt}
 use Rattle.std.proofs.lemmas.Bool.Decides.{nat_tests}
-use Rattle.std.proofs.lemmas.List.{get_or-map, length-map, length-append}
+use Rattle.std.proofs.lemmas.List.{length-append}
 use Rattle.std.proofs.lemmas.List.Elements.{All-nil, All-cons, All-append, All-tail, All-head, All-filter, All-contains, All-get_or, Contains-append_left, Contains-append_right}
 use Rattle.std.proofs.lemmas.Slice.Eq.{bytes_eq-Decides}
 use Rattle.plain_tree.specs.Document.{Node, element, text, Nodes, no_nodes, node_then}
@@ -193,11 +193,6 @@ parents-inside base true (c ∷ cs) h =
     All-append (AtOrBelow base) (at_or_below c) (flat_map at_or_below cs)
     (λ k d within. prefix-further base c (get_or (at_or_below c) k d) (All-head (AtOrBelow base) c cs h) (from c.place c.node k d within))
     (parents-inside base true cs (All-tail (AtOrBelow base) c cs h))
-
-pub all-refs : (root : Numbered) (P : Element → Type 0) (items : List NodeRef) → All P (map (element_of root) items) → All (λ r. P (element_of root r)) items
-all-refs root P items h k d within =
-    let long = length-map items (element_of root) in
-    subst P (get_or-map (element_of root) items k d (element_of root d) within) (h k (element_of root d) (omega (arith, within, long)))
 
 pub map-map : (root : Numbered) (m : Meaning) (deep : Bool) (test : _) (ps : Predicates) (xs : List Element) → map (λ items. filtered (satisfied root m) (elements (plain root)) ps (filter (λ e. is_named test e.node) items)) (map element_children xs) ≡ map (kept_children root m (step deep test ps)) xs
 map-map root m deep test ps [] = refl

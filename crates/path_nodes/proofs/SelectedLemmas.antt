@@ -18,7 +18,6 @@ use Rattle.path_meaning.proofs.Traced.{same_itself}
 use Rattle.ordered_tree.specs.Numbered.{Numbered, element_at, text_at, plain, reference, is_element}
 use Rattle.ordered_tree.specs.Stands.{round_root, references}
 use Rattle.ft_base.specs.declared.ids.NodeRef.{NodeRef}
-use Rattle.path_nodes.specs.Asked.{OfEach}
 use Rattle.path_nodes.specs.steps.Kept.{kept, kept_children}
 use Rattle.path_nodes.specs.Prices.{list_price, children_price, step_price}
 use Rattle.path_nodes.specs.References.{Spot, spots, spots_in, element_of, IsElement}
@@ -202,11 +201,6 @@ module _ (sat : ℕ → List Element → Element → Bool) (root : Node) where
   unfolding selected
   selected-next [] d lt = absurd (omega (arith, lt))
   selected-next (x ∷ xs) d lt = refl
-
-pub later-steps : (P : ℕ → Type 0) (xs : List steps.Step) → OfEach P (form.steps (map view.step xs)) → OfEach P (form.steps (map view.step (drop 1 xs)))
-unfolding OfEach
-later-steps P [] h = h
-later-steps P (x ∷ xs) h = h.1
 
 pub not-empty : {A : Type 0} (xs : List A) (b : Bool) → (xs ≡ [] → b ≡ true) → b ≡ false → 0 < length xs
 not-empty [] b f e = let h : b ≡ true = f refl in cc

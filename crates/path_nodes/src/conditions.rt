@@ -95,12 +95,7 @@ impl<'d, 't, 'k, T: HoleTest, G: Ground> Evaluation<'d, 't, 'k, T, G> {
 
     /// Whether steps lead from an element to some element.
     #[cycle(evaluate)]
-    fn exists(
-        &mut self,
-        steps: &Items<Step>,
-        number: usize,
-        item: NodeRef,
-    ) -> Result<bool, Memory>
+    fn exists(&mut self, steps: &Items<Step>, number: usize, item: NodeRef) -> Result<bool, Memory>
         requires item { IsElement G.root item }
         requires numbered { StandFrom G.conditions number (in_condition (form.exists (form.steps (map view.step steps.now)))) }
         ensures truth { IfOk result (λ truth. truth ≡ meaning.some_element (meaning.led (satisfied G.root G.meaning) (elements (plain G.root))

@@ -31,11 +31,11 @@ impl Ground for Brand {
     ghost root = { text_at (record { 0 = 0 }) [] };
 
     ghost meaning = { record {
-        may_ask = λ k r. false;
-        says = λ k holes r. false;
-        price = λ k r. 0;
-        span = λ r. record { from = 0; to = 0 };
-        lent = [];
+      may_ask = λ k r. false;
+      says = λ k holes r. false;
+      price = λ k r. 0;
+      span = λ r. record { from = 0; to = 0 };
+      lent = [];
     } };
 
     ghost conditions = { [] };

@@ -11,7 +11,7 @@ ghost use Rattle.path_nodes.specs.References.{IsElement, element_of};
 ghost use Rattle.path_nodes.specs.Says.{satisfied};
 ghost use Rattle.path_nodes.specs.steps.Found.{ReferTo, Spends};
 ghost use Rattle.path_nodes.specs.steps.Kept as spec;
-ghost use Rattle.path_nodes.specs.steps.Leading.{StandFrom, in_condition, in_predicate, in_step};
+ghost use Rattle.path_nodes.specs.steps.Leading.{StandFrom, in_condition, in_predicate, in_predicates, in_step};
 
 use crate::evaluation::{Evaluation, Ground};
 use crate::kept::push_if;
@@ -21,27 +21,27 @@ use crate::numbers::numbered;
 use crate::{HoleTest, Nodes};
 use ft_base::Memory;
 use ordered_tree::NodeRef;
-use path_grammar::{Condition, Predicate, Step};
+use path_grammar::{Condition, Predicate, Predicates, Step};
 
 impl<'d, 't, 'k, T: HoleTest, G: Ground> Evaluation<'d, 't, 'k, T, G> {
-    /// Whether an element passes the predicates of a step that has no numbers. Those after the first one that it doesn't pass aren't asked.
+    /// Whether an element passes the predicates, none of which is a number. Those after the first one that it doesn't pass aren't asked.
     #[cycle(evaluate)]
     pub(crate) fn passes(
         &mut self,
-        step: &Step,
+        predicates: &Predicates,
         number: usize,
         item: NodeRef,
     ) -> Result<bool, Memory>
-        requires no_number { spec.has_number (view.step step.now) ≡ false }
+        requires no_number { spec.some_number (form.predicates (map view.predicate predicates.now)) ≡ false }
         requires item { IsElement G.root item }
-        requires numbered { StandFrom G.conditions number (in_step (view.step step.now)) }
+        requires numbered { StandFrom G.conditions number (in_predicates (form.predicates (map view.predicate predicates.now))) }
         ensures truth { IfOk result (λ truth. truth ≡ spec.passes (satisfied G.root G.meaning) (elements (plain G.root))
-            (form.predicates (map view.predicate step.now.predicates)) (element_of G.root item)) }
+            (form.predicates (map view.predicate predicates.now)) (element_of G.root item)) }
         ensures cost { Spends T.cost self.old.test self.new.test (price.predicates_price G.root G.meaning
-            (form.predicates (map view.predicate step.now.predicates)) (element_of G.root item ∷ [])) }
+            (form.predicates (map view.predicate predicates.now)) (element_of G.root item ∷ [])) }
     {
         let mut first = number;
-        for predicate in step.predicates.as_slice() {
+        for predicate in predicates.as_slice() {
             let after = after_predicate(first, predicate)?;
             if !self.passes_by(predicate, first, item)? {
                 return Ok(false);
@@ -88,22 +88,27 @@ impl<'d, 't, 'k, T: HoleTest, G: Ground> Evaluation<'d, 't, 'k, T, G> {
             (price.list_price G.root G.meaning (view.step step.now) (map (element_of G.root) items.now)) }
     {
         let named = named(self.alloc, self.tree, &step.test, items)?;
-        self.passed(step, number, named)
+        self.passed(&step.predicates, number, named)
     }
 
-    /// The elements of a list that pass the predicates of a step, each of which sees what those before it have left.
+    /// The elements of a list that pass predicates, each of which sees what those before it have left.
     #[cycle(evaluate)]
-    fn passed(&mut self, step: &Step, number: usize, items: Nodes) -> Result<Nodes, Memory>
+    fn passed(
+        &mut self,
+        predicates: &Predicates,
+        number: usize,
+        items: Nodes,
+    ) -> Result<Nodes, Memory>
         requires items { All (IsElement G.root) items }
-        requires numbered { StandFrom G.conditions number (in_step (view.step step.now)) }
+        requires numbered { StandFrom G.conditions number (in_predicates (form.predicates (map view.predicate predicates.now))) }
         ensures elements { IfOk result (ReferTo G.root (meaning.filtered (satisfied G.root G.meaning) (elements (plain G.root))
-            (form.predicates (map view.predicate step.now.predicates)) (map (element_of G.root) items))) }
+            (form.predicates (map view.predicate predicates.now)) (map (element_of G.root) items))) }
         ensures cost { Spends T.cost self.old.test self.new.test (price.predicates_price G.root G.meaning
-            (form.predicates (map view.predicate step.now.predicates)) (map (element_of G.root) items)) }
+            (form.predicates (map view.predicate predicates.now)) (map (element_of G.root) items)) }
     {
         let mut kept = items;
         let mut first = number;
-        for predicate in step.predicates.as_slice() {
+        for predicate in predicates.as_slice() {
             let after = after_predicate(first, predicate)?;
             kept = self.filtered(predicate, first, kept)?;
             first = after;

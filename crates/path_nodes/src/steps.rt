@@ -127,7 +127,7 @@ impl<'d, 't, 'k, T: HoleTest, G: Ground> Evaluation<'d, 't, 'k, T, G> {
         let mut offering = Offering::over(self.alloc, self.tree, step.deep, outer)?;
         let mut found = Nodes::new(self.alloc);
         while let Some(here) = offering.next(self.tree, step, &name, &*self.test)? {
-            let wanted = self.passes(step, number, here)?;
+            let wanted = self.passes(&step.predicates, number, here)?;
             push_if(wanted, here, &mut found)?;
         }
         Ok(found)

@@ -1,5 +1,5 @@
 -- Each kind of condition and predicate, one more of each list.
-use Rattle.std.proofs.Common.{◌≡◌, ◌≤◌, ◌<◌, ◌||◌, Bool, false, not, ◌∷◌, [], ◌++◌, map, filter, flat_map, take, length, get_or, IfNone, IfOk, IfSome, refl, sym, ap, ◌∙◌, subst, arith, rules}
+use Rattle.std.proofs.Common.{◌≡◌, ◌≤◌, ◌||◌, Bool, false, not, ◌∷◌, [], ◌++◌, map, filter, flat_map, take, length, get_or, IfNone, IfOk, refl, sym, ap, ◌∙◌, subst, arith, rules}
 use Rattle.std.specs.List.{All, AllPairs, Contains, list_any}
 use Rattle.std.proofs.lemmas.List.{take_all, drop_all}
 use Rattle.std.proofs.lemmas.List.Elements.{All-nil, All-cons, All-map, All-weaker, All-get_or}
@@ -15,12 +15,10 @@ use Rattle.path_meaning.specs.Tests.{condition_tests}
 use Rattle.path_nodes.specs.Asked.{MayAsk}
 use Rattle.path_nodes.specs.steps.Found.{ReferTo}
 use Rattle.path_nodes.specs.steps.Kept as spec
-use Rattle.path_nodes.specs.steps.Known.{IsTruth}
 use Rattle.path_nodes.specs.steps.Marks.{is_marked}
 use Rattle.path_nodes.specs.steps.Offered.{to_come}
 use Rattle.path_nodes.specs.steps.RuledOut.{KeepNothing, Suffice}
-use Rattle.path_nodes.specs.steps.Weights.{weights_at}
-use Rattle.path_nodes.specs.steps.Leading.{StandFrom, in_paths, in_steps, in_predicate, in_condition}
+use Rattle.path_nodes.specs.steps.Leading.{in_paths, in_steps, in_predicate, in_condition}
 use Rattle.path_nodes.specs.Prices as price
 use Rattle.path_nodes.specs.References.{IsElement, element_of}
 use Rattle.path_nodes.specs.steps.Regions.{below}
@@ -30,7 +28,7 @@ use Rattle.path_nodes.proofs.AskedLemmas.{step-is}
 use Rattle.path_nodes.proofs.AskingLemmas.{of-predicates}
 use Rattle.path_nodes.proofs.ChosenLemmas.{within-base, led-inside, stepped-inside, parents-inside, of-document, stepped-is}
 use Rattle.path_nodes.proofs.PrefixLemmas.{prefix-itself}
-use Rattle.path_nodes.proofs.FoundLemmas.{refer-ok, one-below}
+use Rattle.path_nodes.proofs.FoundLemmas.{refer-ok, one-below, some-of}
 use Rattle.path_nodes.proofs.IgnoredLemmas.{led_by, steps_of, all-ignored, inside-more, lead-more, marks-more}
 use Rattle.path_nodes.proofs.KnownLemmas.{is-truth}
 use Rattle.path_nodes.proofs.LeadingLemmas.{in-step, steps-from, predicates-from, conditions-from, paths-from, stand-first, stand-next, stand-itself, stand-inside}
@@ -124,7 +122,7 @@ unfolding in_condition meaning.is_true
 exists-returns-in-Some-clause-truth g t c =
     let s = form.steps (map view.step c.args.steps.now) in
     let itself = stand-itself g.G.Ground.conditions c.args.number (form.exists s) (in_steps s) c.requires.numbered in
-    subst (λ o. IfSome o (IsTruth g.G.Ground.root g.G.Ground.meaning g.G.Ground.conditions c.args.number c.args.item)) c.in-Some.is c.truth.ensures (form.exists s) itself
+    some-of _ c.in-Some.is c.truth.ensures (form.exists s) itself
 
 pub exists-returns-clause-truth : goal.exists-returns-clause-truth
 exists-returns-clause-truth g t c =
@@ -183,7 +181,7 @@ unfolding in_condition
 is_true-returns-in-Some-clause-truth g t c =
     let s = form.steps (map view.step c.in-Contains.steps) in
     let ps = form.paths (map view.relative_path c.in-Contains.ignored) in
-    let known = subst (λ o. IfSome o (IsTruth g.G.Ground.root g.G.Ground.meaning g.G.Ground.conditions c.args.number c.args.item)) c.in-Some.is c.truth.ensures in
+    let known = some-of _ c.in-Some.is c.truth.ensures in
     rw (c.in-Contains.is, view_contains) (known (form.contains s c.in-Contains.selection ps) (stand-itself g.G.Ground.conditions c.args.number _ _ (rw (c.in-Contains.is, view_contains) at c.requires.numbered)))
 
 pub is_true-keep-requires : goal.is_true-keep-requires
@@ -355,7 +353,7 @@ chosen_in_order-next-requires g t c =
     let root = g.G.Ground.root in
     let s = c.args.step.now in
     let asked = of-predicates g.G.Ground.conditions (MayAsk root g.G.Ground.meaning) c.loop-found.self.asked (form.predicates (map view.predicate s.predicates)) c.args.number
-    (subst (StandFrom g.G.Ground.conditions c.args.number) (in-step s) c.requires.numbered) in
+    (rw (in-step s) at c.requires.numbered) in
     record {
       left = rw c.loop-found.self.root c.loop-found.invariant.left;
       no_number = ap spec.has_number (sym (step-is s)) ∙ c.requires.no_number;
@@ -386,8 +384,9 @@ chosen_in_order-loop-found-init g t c =
 
 pub chosen_in_order-passes-requires : goal.chosen_in_order-passes-requires
 chosen_in_order-passes-requires g t c κs within =
-    let there = subst (λ o. IfSome o (IsElement g.G.Ground.root)) c.in-Some.is (rw c.loop-found.self.root at c.in_ok-here.ensures.there) in
-    (search (rules, the_lemmas), (within.0, (within.1, (c.requires.no_number, (there, c.requires.numbered)))))
+    let no-number = ap spec.has_number (sym (step-is c.args.step.now)) ∙ c.requires.no_number in
+    let there = some-of _ c.in-Some.is (rw c.loop-found.self.root at c.in_ok-here.ensures.there) in
+    (search (rules, the_lemmas), (within.0, (within.1, (no-number, (there, rw (in-step c.args.step.now) at c.requires.numbered)))))
 
 pub chosen_in_order-loop-found-preserved : goal.chosen_in_order-loop-found-preserved
 chosen_in_order-loop-found-preserved g t c =
@@ -400,9 +399,8 @@ chosen_in_order-loop-found-preserved g t c =
     let named : Element → Bool = λ e. meaning.is_named c.of-name.result e.node in
     let rest = filter named (to_come root s.deep c.next.new.self.left.items) in
     let before = filter named (to_come root s.deep c.loop-found.offering.left.items) in
-    let told = rw (c.loop-found.self.root, c.loop-found.self.meaning) at c.in_ok-here.ensures.some in
-    let enough : Suffice root m ps (element_of root here ∷ rest) before = subst (λ o. IfSome o (λ r. Suffice root m ps (element_of root r ∷ rest) before)) c.in-Some.is told in
-    let there : IsElement root here = subst (λ o. IfSome o (IsElement root)) c.in-Some.is (rw c.loop-found.self.root at c.in_ok-here.ensures.there) in
+    let enough = some-of _ c.in-Some.is (rw (c.loop-found.self.root, c.loop-found.self.meaning) at c.in_ok-here.ensures.some) in
+    let there = some-of _ c.in-Some.is (rw c.loop-found.self.root at c.in_ok-here.ensures.there) in
     record {
       done = kept-next root m ps no-number here rest before enough c.loop-found.found c.push_if.new.nodes c.in_ok-wanted.wanted _ c.in_ok-push_if.ensures c.in_ok-wanted.ensures.truth c.loop-found.invariant.done;
       there = more-there (IsElement root) c.loop-found.found c.push_if.new.nodes here c.in_ok-wanted.wanted c.in_ok-push_if.ensures there c.loop-found.invariant.there;
@@ -413,8 +411,7 @@ chosen_in_order-loop-found-preserved g t c =
 
 pub chosen_in_order-loop-found-smaller : goal.chosen_in_order-loop-found-smaller
 chosen_in_order-loop-found-smaller g t c =
-    let root = g.G.Ground.root in
-    subst (λ o. IfSome o (λ r. weights_at root c.next.new.self.left.items < weights_at root c.loop-found.offering.left.items)) c.in-Some.is (rw c.loop-found.self.root at c.in_ok-here.ensures.fewer)
+    some-of _ c.in-Some.is (rw c.loop-found.self.root at c.in_ok-here.ensures.fewer)
 
 pub chosen_in_order-returns-clause-elements : goal.chosen_in_order-returns-clause-elements
 chosen_in_order-returns-clause-elements g t c =
@@ -450,35 +447,17 @@ chosen_in_order-returns-in_err-here-clause-cost g t c =
 
 pub chosen_in_order-returns-in_err-wanted-clause-cost : goal.chosen_in_order-returns-in_err-wanted-clause-cost
 chosen_in_order-returns-in_err-wanted-clause-cost g t c =
-    let root = g.G.Ground.root in
-    let m = g.G.Ground.meaning in
     let s = c.args.step.now in
-    let ps = form.predicates (map view.predicate s.predicates) in
-    let no-number = ap spec.has_number (sym (step-is s)) ∙ c.requires.no_number in
-    let here = c.in-Some.here in
-    let named : Element → Bool = λ e. meaning.is_named c.of-name.result e.node in
-    let rest = filter named (to_come root s.deep c.next.new.self.left.items) in
-    let before = filter named (to_come root s.deep c.loop-found.offering.left.items) in
-    let told = rw (c.loop-found.self.root, c.loop-found.self.meaning) at c.in_ok-here.ensures.some in
-    let enough : Suffice root m ps (element_of root here ∷ rest) before = subst (λ o. IfSome o (λ r. Suffice root m ps (element_of root r ∷ rest) before)) c.in-Some.is told in
-    at-price (cost-end (cost-here root m ps no-number here rest before enough c.passes.ensures.cost c.loop-found.invariant.cost))
-    (one-pass-price root m (view.step s) s.deep s.test ps (step-is s) c.requires.no_number (map (element_of root) c.args.outer.now))
+    let enough = some-of _ c.in-Some.is (rw (c.loop-found.self.root, c.loop-found.self.meaning) at c.in_ok-here.ensures.some) in
+    at-price (cost-end (cost-here _ _ _ (ap spec.has_number (sym (step-is s)) ∙ c.requires.no_number) _ _ _ enough c.passes.ensures.cost c.loop-found.invariant.cost))
+    (one-pass-price _ _ (view.step s) s.deep s.test (form.predicates (map view.predicate s.predicates)) (step-is s) c.requires.no_number (map (element_of g.G.Ground.root) c.args.outer.now))
 
 pub chosen_in_order-returns-in_err-push_if-clause-cost : goal.chosen_in_order-returns-in_err-push_if-clause-cost
 chosen_in_order-returns-in_err-push_if-clause-cost g t c =
-    let root = g.G.Ground.root in
-    let m = g.G.Ground.meaning in
     let s = c.args.step.now in
-    let ps = form.predicates (map view.predicate s.predicates) in
-    let no-number = ap spec.has_number (sym (step-is s)) ∙ c.requires.no_number in
-    let here = c.in-Some.here in
-    let named : Element → Bool = λ e. meaning.is_named c.of-name.result e.node in
-    let rest = filter named (to_come root s.deep c.next.new.self.left.items) in
-    let before = filter named (to_come root s.deep c.loop-found.offering.left.items) in
-    let told = rw (c.loop-found.self.root, c.loop-found.self.meaning) at c.in_ok-here.ensures.some in
-    let enough : Suffice root m ps (element_of root here ∷ rest) before = subst (λ o. IfSome o (λ r. Suffice root m ps (element_of root r ∷ rest) before)) c.in-Some.is told in
-    at-price (cost-end (cost-here root m ps no-number here rest before enough c.passes.ensures.cost c.loop-found.invariant.cost))
-    (one-pass-price root m (view.step s) s.deep s.test ps (step-is s) c.requires.no_number (map (element_of root) c.args.outer.now))
+    let enough = some-of _ c.in-Some.is (rw (c.loop-found.self.root, c.loop-found.self.meaning) at c.in_ok-here.ensures.some) in
+    at-price (cost-end (cost-here _ _ _ (ap spec.has_number (sym (step-is s)) ∙ c.requires.no_number) _ _ _ enough c.passes.ensures.cost c.loop-found.invariant.cost))
+    (one-pass-price _ _ (view.step s) s.deep s.test (form.predicates (map view.predicate s.predicates)) (step-is s) c.requires.no_number (map (element_of g.G.Ground.root) c.args.outer.now))
 
 -- ---- passes
 
@@ -486,15 +465,6 @@ pub passes-passes_by-requires : goal.passes-passes_by-requires
 passes-passes_by-requires g t c κs within =
     let first = stand-first _ _ _ (predicates-from c.as_slice-predicate-items.result.now c.loop-predicate.predicate-index c.predicate-item.result c.loop-predicate-test.true) g.G.Ground.conditions c.loop-predicate.first c.loop-predicate.invariant.numbered in
     (search (rules, the_lemmas), (within.0, (within.1, (c.requires.item, rw c.predicate-item.is first))))
-
-pub passes-loop-predicate-init : goal.passes-loop-predicate-init
-passes-loop-predicate-init g t c =
-    let numbered = subst (StandFrom g.G.Ground.conditions c.args.number) (in-step c.args.step.now) c.requires.numbered in
-    record {
-      left = rw c.as_slice-predicate-items.ensures refl;
-      numbered = rw c.as_slice-predicate-items.ensures numbered;
-      cost = rw c.as_slice-predicate-items.ensures (record { same = refl; within = omega arith });
-    }
 
 pub passes-loop-predicate-preserved : goal.passes-loop-predicate-preserved
 passes-loop-predicate-preserved g t c =
@@ -506,7 +476,7 @@ passes-loop-predicate-preserved g t c =
     let e = element_of root c.args.item in
     let within = c.loop-predicate-test.true in
     let is = sym (rw c.predicate-item.is at c.in_ok-passes_by.ensures.truth) ∙ c.if-not-branch.false in
-    let no-number = rw (← c.as_slice-predicate-items.ensures) at (ap spec.has_number (sym (step-is c.args.step.now)) ∙ c.requires.no_number) in
+    let no-number = rw (← c.as_slice-predicate-items.ensures) at c.requires.no_number in
     record {
       left = passes-next (satisfied root m) (elements (plain root)) items i d within e is ∙ c.loop-predicate.invariant.left;
       numbered = stand-next _ _ _ (predicates-from items i d within) _ _ c.loop-predicate.invariant.numbered _ (rw c.predicate-item.is at c.in_ok-after.ensures);
@@ -671,16 +641,6 @@ passed-filtered-requires g t c κs within =
     let first = stand-first _ _ _ (predicates-from c.as_slice-predicate-items.result.now c.loop-predicate.predicate-index c.predicate-item.result c.loop-predicate-test.true) g.G.Ground.conditions c.loop-predicate.first c.loop-predicate.invariant.numbered in
     (search (rules, the_lemmas), (within.0, (within.1, (c.loop-predicate.invariant.there, rw c.predicate-item.is first))))
 
-pub passed-loop-predicate-init : goal.passed-loop-predicate-init
-passed-loop-predicate-init g t c =
-    let numbered = subst (StandFrom g.G.Ground.conditions c.args.number) (in-step c.args.step.now) c.requires.numbered in
-    record {
-      left = rw c.as_slice-predicate-items.ensures refl;
-      there = c.requires.items;
-      numbered = rw c.as_slice-predicate-items.ensures numbered;
-      cost = rw c.as_slice-predicate-items.ensures (record { same = refl; within = omega arith });
-    }
-
 pub passed-loop-predicate-preserved : goal.passed-loop-predicate-preserved
 passed-loop-predicate-preserved g t c =
     let root = g.G.Ground.root in
@@ -712,6 +672,10 @@ passed-returns-in_err-kept-clause-cost g t c =
     (map (element_of g.G.Ground.root) c.loop-predicate.kept) _ refl)
 
 -- ---- kept, also of children
+
+pub kept-passed-requires : goal.kept-passed-requires
+kept-passed-requires g t c κs within =
+    (search (rules, the_lemmas), (within.0, (within.1, (rw c.args.self.now.root at c.in_ok-named.ensures.there, rw (in-step c.args.step.now) at c.requires.numbered))))
 
 pub kept-returns-clause-elements : goal.kept-returns-clause-elements
 kept-returns-clause-elements g t c =

@@ -37,12 +37,12 @@ invariant-chosen-loop-parent g l = record {
 abbrev pub invariant-passed-loop-predicate : goal.invariant-passed-loop-predicate
 invariant-passed-loop-predicate g l = record {
   left : meaning.filtered (satisfied g.G.Ground.root g.G.Ground.meaning) (elements (plain g.G.Ground.root)) (form.predicates (map view.predicate (drop l.predicate-index l.predicate-items))) (map (element_of g.G.Ground.root) l.kept)
-      ≡ meaning.filtered (satisfied g.G.Ground.root g.G.Ground.meaning) (elements (plain g.G.Ground.root)) (form.predicates (map view.predicate l.fn.step.predicates)) (map (element_of g.G.Ground.root) l.fn.items);
+      ≡ meaning.filtered (satisfied g.G.Ground.root g.G.Ground.meaning) (elements (plain g.G.Ground.root)) (form.predicates (map view.predicate l.fn.predicates)) (map (element_of g.G.Ground.root) l.fn.items);
   there : All (IsElement g.G.Ground.root) l.kept;
   numbered : StandFrom g.G.Ground.conditions l.first (in_predicates (form.predicates (map view.predicate (drop l.predicate-index l.predicate-items))));
   cost : SpendsOf g.T.TextTest.cost l.fn.self.test l.self.test
       (price.predicates_price g.G.Ground.root g.G.Ground.meaning (form.predicates (map view.predicate (drop l.predicate-index l.predicate-items))) (map (element_of g.G.Ground.root) l.kept))
-      (price.predicates_price g.G.Ground.root g.G.Ground.meaning (form.predicates (map view.predicate l.fn.step.predicates)) (map (element_of g.G.Ground.root) l.fn.items));
+      (price.predicates_price g.G.Ground.root g.G.Ground.meaning (form.predicates (map view.predicate l.fn.predicates)) (map (element_of g.G.Ground.root) l.fn.items));
 }
 
 abbrev pub invariant-led-loop-step : goal.invariant-led-loop-step
@@ -94,11 +94,11 @@ decreases-chosen_in_order-loop-found g l = weights_at g.G.Ground.root l.offering
 abbrev pub invariant-passes-loop-predicate : goal.invariant-passes-loop-predicate
 invariant-passes-loop-predicate g l = record {
   left : passes (satisfied g.G.Ground.root g.G.Ground.meaning) (elements (plain g.G.Ground.root)) (form.predicates (map view.predicate (drop l.predicate-index l.predicate-items))) (element_of g.G.Ground.root l.item)
-      ≡ passes (satisfied g.G.Ground.root g.G.Ground.meaning) (elements (plain g.G.Ground.root)) (form.predicates (map view.predicate l.fn.step.predicates)) (element_of g.G.Ground.root l.item);
+      ≡ passes (satisfied g.G.Ground.root g.G.Ground.meaning) (elements (plain g.G.Ground.root)) (form.predicates (map view.predicate l.fn.predicates)) (element_of g.G.Ground.root l.item);
   numbered : StandFrom g.G.Ground.conditions l.first (in_predicates (form.predicates (map view.predicate (drop l.predicate-index l.predicate-items))));
   cost : SpendsOf g.T.TextTest.cost l.fn.self.test l.self.test
       (price.predicates_price g.G.Ground.root g.G.Ground.meaning (form.predicates (map view.predicate (drop l.predicate-index l.predicate-items))) (element_of g.G.Ground.root l.item ∷ []))
-      (price.predicates_price g.G.Ground.root g.G.Ground.meaning (form.predicates (map view.predicate l.fn.step.predicates)) (element_of g.G.Ground.root l.item ∷ []));
+      (price.predicates_price g.G.Ground.root g.G.Ground.meaning (form.predicates (map view.predicate l.fn.predicates)) (element_of g.G.Ground.root l.item ∷ []));
 }
 
 abbrev pub invariant-ignored-loop-path : goal.invariant-ignored-loop-path
