@@ -12,7 +12,6 @@ use Rattle.path_meaning.specs.Elements.{Element, elements, is_in, is_same}
 use Rattle.path_meaning.specs.Meaning as meaning
 use Rattle.path_meaning.specs.Order.{Before}
 use Rattle.path_meaning.specs.Tests.{condition_tests}
-use Rattle.path_nodes.specs.Asked.{MayAsk}
 use Rattle.path_nodes.specs.steps.Found.{ReferTo}
 use Rattle.path_nodes.specs.steps.Kept as spec
 use Rattle.path_nodes.specs.steps.Marks.{is_marked}
@@ -352,7 +351,7 @@ pub chosen_in_order-next-requires : goal.chosen_in_order-next-requires
 chosen_in_order-next-requires g t c =
     let root = g.G.Ground.root in
     let s = c.args.step.now in
-    let asked = of-predicates g.G.Ground.conditions (MayAsk root g.G.Ground.meaning) c.loop-found.self.asked (form.predicates (map view.predicate s.predicates)) c.args.number
+    let asked = of-predicates root g.G.Ground.meaning g.G.Ground.conditions c.loop-found.self.asked (form.predicates (map view.predicate s.predicates)) c.args.number
     (rw (in-step s) at c.requires.numbered) in
     record {
       left = rw c.loop-found.self.root c.loop-found.invariant.left;
