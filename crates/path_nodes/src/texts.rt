@@ -70,6 +70,9 @@ impl<'d, 't, 'k, T: HoleTest, G: Ground> Evaluation<'d, 't, 'k, T, G> {
         ensures cost { Spends T.cost self.old.test self.new.test
             (price.ignored_price G.root G.meaning (form.paths (map view.relative_path paths.now)) (element_of G.root item)) }
     {
+        if paths.is_empty() {
+            return Ok(Nodes::new(self.alloc));
+        }
         let mut marks = Marks::new(self.alloc);
         let mut ways = Marks::new(self.alloc);
         let mut first = number;

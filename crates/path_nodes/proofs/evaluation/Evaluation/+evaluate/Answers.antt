@@ -239,6 +239,11 @@ some_satisfies-returns-in_err-truth-clause-cost g t c = both-cost c.ignored.ensu
 pub some_satisfies-returns-clause-cost : goal.some_satisfies-returns-clause-cost
 some_satisfies-returns-clause-cost g t c = both-cost c.ignored.ensures.cost c.some_contains.ensures.cost refl
 
+pub ignored-returns-then-is_empty-clause-elements : goal.ignored-returns-then-is_empty-clause-elements
+unfolding meaning.ignored
+ignored-returns-then-is_empty-clause-elements g t c =
+    rw (c.is_empty.ensures.0 c.if-is_empty.true, c.new.ensures) (record { there = All-nil (IsElement g.G.Ground.root); are = refl })
+
 pub ignored-led_from-requires : goal.ignored-led_from-requires
 ignored-led_from-requires g t c κs within =
     let first = stand-first _ _ _ (paths-from c.as_slice-path-items.result.now c.loop-path.path-index c.path-item.result c.loop-path-test.true) g.G.Ground.conditions c.loop-path.first c.loop-path.invariant.numbered in
