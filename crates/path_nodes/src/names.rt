@@ -2,6 +2,7 @@ ghost use Rattle.std.specs.Prelude.{◌≡◌, ℕ, All, IfOk, List, filter, map
 ghost use Rattle.path_grammar.specs.declared.path.NameTest.TheVariants as tests;
 ghost use Rattle.path_meaning.specs.Meaning as meaning;
 ghost use Rattle.path_nodes.specs.References.{IsElement, element_of};
+ghost use Rattle.path_nodes.specs.steps.Found.{ReferTo};
 
 use crate::Nodes;
 use crate::kept::push_if;
@@ -59,28 +60,11 @@ pub(crate) fn is_named(tree: &DocTree, test: &ReadyTest<'_>, node: NodeRef) -> b
 pub(crate) fn named(
     alloc: Global,
     tree: &DocTree,
-    test: &NameTest,
-    items: &Nodes,
-) -> Result<Nodes, Memory>
-    requires { All (IsElement tree.now.root) items.now }
-    ensures elements { IfOk result (λ kept. map (element_of tree.now.root) kept
-        ≡ filter (λ e. meaning.is_named test.now e.node) (map (element_of tree.now.root) items.now)) }
-    ensures there { IfOk result (All (IsElement tree.now.root)) }
-{
-    passing(alloc, tree, &ReadyTest::of(test), items)
-}
-
-/// The same by the test that was made ready.
-fn passing(
-    alloc: Global,
-    tree: &DocTree,
     test: &ReadyTest<'_>,
     items: &Nodes,
 ) -> Result<Nodes, Memory>
     requires { All (IsElement tree.now.root) items.now }
-    ensures elements { IfOk result (λ kept. map (element_of tree.now.root) kept
-        ≡ filter (λ e. meaning.is_named test.now e.node) (map (element_of tree.now.root) items.now)) }
-    ensures there { IfOk result (All (IsElement tree.now.root)) }
+    ensures { IfOk result (ReferTo tree.now.root (filter (λ e. meaning.is_named test.now e.node) (map (element_of tree.now.root) items.now))) }
 {
     let mut kept = Nodes::new(alloc);
     for item in items.as_slice() {

@@ -16,7 +16,7 @@ ghost use Rattle.path_nodes.specs.steps.Leading.{StandFrom, in_condition, in_pre
 use crate::evaluation::{Evaluation, Ground};
 use crate::kept::push_if;
 use crate::leading::after_predicate;
-use crate::names::named;
+use crate::names::{ReadyTest, named};
 use crate::numbers::numbered;
 use crate::{HoleTest, Nodes};
 use ft_base::Memory;
@@ -87,7 +87,8 @@ impl<'d, 't, 'k, T: HoleTest, G: Ground> Evaluation<'d, 't, 'k, T, G> {
         ensures cost { Spends T.cost self.old.test self.new.test
             (price.list_price G.root G.meaning (view.step step.now) (map (element_of G.root) items.now)) }
     {
-        let named = named(self.alloc, self.tree, &step.test, items)?;
+        let name = ReadyTest::of(&step.test);
+        let named = named(self.alloc, self.tree, &name, items)?;
         self.passed(&step.predicates, number, named)
     }
 

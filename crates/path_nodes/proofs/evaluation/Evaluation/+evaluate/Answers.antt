@@ -679,7 +679,7 @@ passed-returns-in_err-kept-clause-cost g t c =
 
 pub kept-passed-requires : goal.kept-passed-requires
 kept-passed-requires g t c κs within =
-    (search (rules, the_lemmas), (within.0, (within.1, (rw c.args.self.now.root at c.in_ok-named.ensures.there, rw (in-step c.args.step.now) at c.requires.numbered))))
+    (search (rules, the_lemmas), (within.0, (within.1, ((rw c.args.self.now.root at c.in_ok-named.ensures).there, rw (in-step c.args.step.now) at c.requires.numbered))))
 
 pub kept-returns-clause-elements : goal.kept-returns-clause-elements
 kept-returns-clause-elements g t c =
@@ -687,7 +687,7 @@ kept-returns-clause-elements g t c =
     let m = g.G.Ground.meaning in
     let s = c.args.step.now in
     subst (λ es. IfOk c.passed.result (ReferTo root es))
-    (ap (meaning.filtered (satisfied root m) (elements (plain root)) (form.predicates (map view.predicate s.predicates))) (rw c.args.self.now.root at c.in_ok-named.ensures.elements)
+    (ap (meaning.filtered (satisfied root m) (elements (plain root)) (form.predicates (map view.predicate s.predicates))) (rw (c.args.self.now.root, c.of-name.ensures) at c.in_ok-named.ensures).are
     ∙ sym (ap (λ t. spec.kept root m t (map (element_of root) c.args.items.now)) (step-is s)))
     c.passed.ensures.elements
 
@@ -697,7 +697,7 @@ kept-returns-clause-cost g t c =
     let m = g.G.Ground.meaning in
     let s = c.args.step.now in
     at-price c.passed.ensures.cost
-    (ap (price.predicates_price root m (form.predicates (map view.predicate s.predicates))) (rw c.args.self.now.root at c.in_ok-named.ensures.elements)
+    (ap (price.predicates_price root m (form.predicates (map view.predicate s.predicates))) (rw (c.args.self.now.root, c.of-name.ensures) at c.in_ok-named.ensures).are
     ∙ sym (ap (λ t. price.list_price root m t (map (element_of root) c.args.items.now)) (step-is s)))
 
 pub kept_children-returns-clause-elements : goal.kept_children-returns-clause-elements

@@ -2,7 +2,7 @@
 use Rattle.std.proofs.Common.{◌≡◌, All, filter, map, take}
 use Rattle.path_meaning.specs.Meaning.{is_named}
 use Rattle.path_nodes.specs.References.{IsElement, element_of}
-use Rattle.path_nodes.proofs.names.passing.Given as goal
+use Rattle.path_nodes.proofs.names.named.Given as goal
 
 abbrev pub invariant-loop-item : goal.invariant-loop-item
 invariant-loop-item l = record {
