@@ -1,19 +1,13 @@
 -- What an evaluation finds.
-use Rattle.std.proofs.Common.{◌≡◌, List, ◌∷◌, [], Option, Some, Result, Ok, Err, IfOk, IfSome, map, subst}
-use Rattle.std.specs.List.{All}
+use Rattle.std.proofs.Common.{◌≡◌, ◌∷◌, [], Option, Some, IfSome, subst}
 use Rattle.std.proofs.lemmas.List.Elements.{All-nil, All-cons}
 use Rattle.ordered_tree.specs.Numbered.{Numbered}
 use Rattle.ft_base.specs.declared.ids.NodeRef.{NodeRef}
-use Rattle.path_meaning.specs.Elements.{Element}
 use Rattle.path_nodes.specs.References.{IsElement, element_of}
-use Rattle.path_nodes.specs.steps.Found.{AreBelow, ReferTo}
+use Rattle.path_nodes.specs.steps.Found.{AreBelow}
 use Rattle.path_nodes.specs.steps.Within.{AtOrBelow}
 use Rattle.path_nodes.proofs.OrderLemmas.{one-ordered}
 use Rattle.path_nodes.proofs.PrefixLemmas.{prefix-itself}
-
-pub refer-ok : {E : Type 0} (root : Numbered) (es : List Element) (r : Result (List NodeRef) E) → IfOk r (All (IsElement root)) → IfOk r (λ found. map (element_of root) found ≡ es) → IfOk r (ReferTo root es)
-refer-ok root es (Ok found) there are = record { there = there; are = are }
-refer-ok root es (Err e) there are = tt
 
 -- what holds of a value that is there
 pub some-of : {A : Type 0} {o : Option A} {x : A} (P : A → Type 0) → o ≡ Some x → IfSome o P → P x

@@ -1,6 +1,7 @@
-ghost use Rattle.std.specs.Prelude.{◌≡◌, All, IfOk, map};
+ghost use Rattle.std.specs.Prelude.{IfOk};
 ghost use Rattle.path_meaning.specs.Elements.{element_children};
 ghost use Rattle.path_nodes.specs.References.{IsElement, element_of};
+ghost use Rattle.path_nodes.specs.steps.Found.{ReferTo};
 
 use crate::Nodes;
 use ft_base::Memory;
@@ -14,8 +15,7 @@ pub(crate) fn element_children(
     node: NodeRef,
 ) -> Result<Nodes, Memory>
     requires { IsElement tree.now.root node }
-    ensures elements { IfOk result (λ children. map (element_of tree.now.root) children ≡ element_children (element_of tree.now.root node)) }
-    ensures there { IfOk result (All (IsElement tree.now.root)) }
+    ensures { IfOk result (ReferTo tree.now.root (element_children (element_of tree.now.root node))) }
 {
     let mut children = Nodes::new(alloc);
     let mut link = tree.first_child(node);

@@ -1,6 +1,7 @@
-ghost use Rattle.std.specs.Prelude.{◌≡◌, All, IfOk, map};
+ghost use Rattle.std.specs.Prelude.{All, IfOk, map};
 ghost use Rattle.path_meaning.specs.Meaning as meaning;
 ghost use Rattle.path_nodes.specs.References.{IsElement, element_of};
+ghost use Rattle.path_nodes.specs.steps.Found.{ReferTo};
 
 use crate::Nodes;
 use ft_base::Memory;
@@ -15,8 +16,7 @@ pub(crate) fn numbered(
     items: &Nodes,
 ) -> Result<Nodes, Memory>
     requires { All (IsElement tree.now.root) items.now }
-    ensures elements { IfOk result (λ kept. map (element_of tree.now.root) kept ≡ meaning.numbered number (map (element_of tree.now.root) items.now)) }
-    ensures there { IfOk result (All (IsElement tree.now.root)) }
+    ensures { IfOk result (ReferTo tree.now.root (meaning.numbered number (map (element_of tree.now.root) items.now))) }
 {
     let _root = tree.root();
     let mut kept = Nodes::new(alloc);

@@ -226,9 +226,8 @@ fn parents_of(
 ) -> Result<Nodes, Memory>
     requires outer { All (IsElement tree.now.root) outer.now }
     requires contexts { All (IsElement tree.now.root) contexts }
-    ensures elements { IfOk result (λ found. map (element_of tree.now.root) found
-        ≡ (if deep then flat_map at_or_below (map (element_of tree.now.root) outer.now) else map (element_of tree.now.root) contexts)) }
-    ensures there { IfOk result (All (IsElement tree.now.root)) }
+    ensures { IfOk result (ReferTo tree.now.root
+        (if deep then flat_map at_or_below (map (element_of tree.now.root) outer.now) else map (element_of tree.now.root) contexts)) }
 {
     if deep {
         with_descendants(alloc, tree, outer)

@@ -3,6 +3,7 @@ ghost use Rattle.ft_base.specs.declared.ids.NodeRef.{NodeRef};
 ghost use Rattle.path_meaning.specs.Elements.{Element};
 ghost use Rattle.path_nodes.specs.steps.Marks.{is_marked};
 ghost use Rattle.path_nodes.specs.References.{IsElement, element_of};
+ghost use Rattle.path_nodes.specs.steps.Found.{ReferTo};
 ghost use Rattle.path_nodes.specs.steps.Regions.{at_or_below, below};
 ghost use Rattle.path_nodes.specs.steps.Ways.{LeadTo};
 
@@ -42,8 +43,7 @@ pub(crate) fn with_descendants(
     contexts: &Nodes,
 ) -> Result<Nodes, Memory>
     requires { All (IsElement tree.now.root) contexts.now }
-    ensures elements { IfOk result (λ found. map (element_of tree.now.root) found ≡ flat_map at_or_below (map (element_of tree.now.root) contexts.now)) }
-    ensures there { IfOk result (All (IsElement tree.now.root)) }
+    ensures { IfOk result (ReferTo tree.now.root (flat_map at_or_below (map (element_of tree.now.root) contexts.now))) }
 {
     let mut found = Nodes::new(alloc);
     for context in contexts.as_slice() {

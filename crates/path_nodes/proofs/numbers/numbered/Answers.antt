@@ -1,20 +1,23 @@
 -- The item of the number, or none.
-use Rattle.std.proofs.Common.{◌≡◌, ◌+◌, ◌-◌, ◌≤◌, ◌<◌, ◌∷◌, [], ◌++◌, map, length, sym, ap, ◌∙◌, arith}
+use Rattle.std.proofs.Common.{◌≡◌, ◌+◌, ◌-◌, ◌≤◌, ◌<◌, ◌∷◌, [], ◌++◌, map, length, sym, ap, ◌∙◌, arith, rules}
 use Rattle.std.proofs.lemmas.List.{get_or-map, length-map}
 use Rattle.path_nodes.specs.References.{element_of}
 use Rattle.path_nodes.proofs.NumberLemmas.{numbered_from, at, past, before}
 use Rattle.path_nodes.proofs.numbers.numbered.Goals as goal
 use Rattle.path_nodes.proofs.numbers.numbered.Goals.{then-index-len+in_ok-push, else-index-len}
 
-pub returns-then-number-eq0-clause-elements : goal.returns-then-number-eq0-clause-elements
-returns-then-number-eq0-clause-elements c =
+pub returns-then-number-eq0 : goal.returns-then-number-eq0
+returns-then-number-eq0 c =
     let root = c.args.tree.now.root in
     let zero : c.args.number ≡ 0 = omega (arith, c.if-number-eq0.true) in
-    ap (map (element_of root)) c.new-kept.ensures
-    ∙ sym (ap (λ k. numbered_from 1 k (map (element_of root) c.args.items.now)) zero ∙ before 1 0 (map (element_of root) c.args.items.now) (omega arith))
+    record {
+      there = search rules;
+      are = ap (map (element_of root)) c.new-kept.ensures
+          ∙ sym (ap (λ k. numbered_from 1 k (map (element_of root) c.args.items.now)) zero ∙ before 1 0 (map (element_of root) c.args.items.now) (omega arith));
+    }
 
-pub returns-clause-elements : goal.returns-clause-elements
-returns-clause-elements c =
+pub returns : goal.returns
+returns c =
     let root = c.args.tree.now.root in
     let items = c.args.items.now in
     let n = c.args.number in
@@ -25,14 +28,20 @@ returns-clause-elements c =
           let x = w.get.result.now in
           let within : n - 1 < length (map (element_of root) items) = omega (arith, w.if-index-len.true, c.len.ensures, long) in
           let short : n - 1 < length items = omega (arith, within, long) in
-          ap (map (element_of root)) (w.kept-is ∙ w.in_ok-push.ensures.ok ∙ ap (λ l. l ++ x ∷ []) c.new-kept.ensures)
-          ∙ ap (λ r. element_of root r ∷ []) w.get.ensures
-          ∙ ap (λ e. e ∷ []) (sym (get_or-map (element_of root) items (n - 1) x (element_of root x) short))
-          ∙ sym (at 1 (n - 1) (map (element_of root) items) (element_of root x) within)
-          ∙ ap (λ k. numbered_from 1 k (map (element_of root) items)) counted
+          record {
+            there = search rules;
+            are = ap (map (element_of root)) (w.kept-is ∙ w.in_ok-push.ensures.ok ∙ ap (λ l. l ++ x ∷ []) c.new-kept.ensures)
+                ∙ ap (λ r. element_of root r ∷ []) w.get.ensures
+                ∙ ap (λ e. e ∷ []) (sym (get_or-map (element_of root) items (n - 1) x (element_of root x) short))
+                ∙ sym (at 1 (n - 1) (map (element_of root) items) (element_of root x) within)
+                ∙ ap (λ k. numbered_from 1 k (map (element_of root) items)) counted;
+          }
       | else-index-len w ↦
           let few : length (map (element_of root) items) ≤ n - 1 = omega (arith, w.if-index-len.false, c.len.ensures, long) in
-          ap (map (element_of root)) (w.kept-is ∙ c.new-kept.ensures)
-          ∙ sym (past 1 (n - 1) (map (element_of root) items) few)
-          ∙ ap (λ k. numbered_from 1 k (map (element_of root) items)) counted
+          record {
+            there = search rules;
+            are = ap (map (element_of root)) (w.kept-is ∙ c.new-kept.ensures)
+                ∙ sym (past 1 (n - 1) (map (element_of root) items) few)
+                ∙ ap (λ k. numbered_from 1 k (map (element_of root) items)) counted;
+          }
     ]

@@ -12,8 +12,8 @@ add_elements-requires t c =
     let items = c.as_slice-child-items.result.now in
     let children = c.in_ok-children.children in
     let i = c.loop-child.child-index in
-    let less = child-light root here items children c.as_slice-child-items.ensures c.in_ok-children.ensures.elements i c.loop-child-test.true in
-    let x = child-there root here items children c.as_slice-child-items.ensures c.in_ok-children.ensures.elements i c.loop-child-test.true c.in_ok-children.ensures.there in
+    let less = child-light root here items children c.as_slice-child-items.ensures c.in_ok-children.ensures.are i c.loop-child-test.true in
+    let x = child-there root here items children c.as_slice-child-items.ensures c.in_ok-children.ensures.are i c.loop-child-test.true c.in_ok-children.ensures.there in
     (omega (arith, c.decreases, less), (x, c.loop-child.invariant.there))
 
 pub returns-clause-elements : goal.returns-clause-elements
@@ -23,7 +23,7 @@ returns-clause-elements t c =
     let items = c.as_slice-child-items.result.now in
     let i = c.loop-child.child-index in
     let past : length items ≤ i = omega (arith, c.loop-child-test.false) in
-    let kids = all-children root here items c.in_ok-children.children c.as_slice-child-items.ensures c.in_ok-children.ensures.elements i past in
+    let kids = all-children root here items c.in_ok-children.children c.as_slice-child-items.ensures c.in_ok-children.ensures.are i past in
     c.loop-child.invariant.done
     ∙ ap (λ l. map (element_of root) c.args.found.now ++ (here ∷ flat_map at_or_below l)) kids
     ∙ ap (λ l. map (element_of root) c.args.found.now ++ (here ∷ l)) (below-children here)

@@ -17,8 +17,8 @@ add_marked-requires t c =
     let items = c.as_slice-child-items.result.now in
     let children = c.in_ok-children.children in
     let i = c.loop-child.child-index in
-    let less = child-light root here items children c.as_slice-child-items.ensures c.in_ok-children.ensures.elements i c.loop-child-test.true in
-    let x = child-there root here items children c.as_slice-child-items.ensures c.in_ok-children.ensures.elements i c.loop-child-test.true c.in_ok-children.ensures.there in
+    let less = child-light root here items children c.as_slice-child-items.ensures c.in_ok-children.ensures.are i c.loop-child-test.true in
+    let x = child-there root here items children c.as_slice-child-items.ensures c.in_ok-children.ensures.are i c.loop-child-test.true c.in_ok-children.ensures.there in
     (omega (arith, c.decreases, less), (x, kept-there (IsElement root) (is_marked c.args.marks.now) c.loop-child.found (get_or items i (of_number 0)) c.push_marked.new.found c.in_ok-push_marked.ensures x c.loop-child.invariant.there))
 
 pub loop-child-preserved : goal.loop-child-preserved
@@ -28,7 +28,7 @@ loop-child-preserved t c =
     let items = c.as_slice-child-items.result.now in
     let i = c.loop-child.child-index in
     let q = get_or items i (of_number 0) in
-    let x = child-there root here items c.in_ok-children.children c.as_slice-child-items.ensures c.in_ok-children.ensures.elements i c.loop-child-test.true c.in_ok-children.ensures.there in
+    let x = child-there root here items c.in_ok-children.children c.as_slice-child-items.ensures c.in_ok-children.ensures.are i c.loop-child-test.true c.in_ok-children.ensures.there in
     record {
       done = λ test agree lead.
           let old = map (element_of root) c.args.found.now in
@@ -61,7 +61,7 @@ returns-clause-elements t c = λ test agree lead.
     let items = c.as_slice-child-items.result.now in
     let i = c.loop-child.child-index in
     let past : length items ≤ i = omega (arith, c.loop-child-test.false) in
-    let kids = all-children root here items c.in_ok-children.children c.as_slice-child-items.ensures c.in_ok-children.ensures.elements i past in
+    let kids = all-children root here items c.in_ok-children.children c.as_slice-child-items.ensures c.in_ok-children.ensures.are i past in
     c.loop-child.invariant.done test agree lead
     ∙ ap (λ l. map (element_of root) c.args.found.now ++ filter test (flat_map at_or_below l)) kids
     ∙ ap (λ l. map (element_of root) c.args.found.now ++ filter test l) (below-children here)

@@ -27,7 +27,7 @@ use Rattle.path_nodes.proofs.AskedLemmas.{step-is}
 use Rattle.path_nodes.proofs.AskingLemmas.{of-predicates}
 use Rattle.path_nodes.proofs.ChosenLemmas.{within-base, led-inside, stepped-inside, parents-inside, of-document, stepped-is}
 use Rattle.path_nodes.proofs.PrefixLemmas.{prefix-itself}
-use Rattle.path_nodes.proofs.FoundLemmas.{refer-ok, one-below, some-of}
+use Rattle.path_nodes.proofs.FoundLemmas.{one-below, some-of}
 use Rattle.path_nodes.proofs.IgnoredLemmas.{led_by, steps_of, all-ignored, inside-more, lead-more, marks-more}
 use Rattle.path_nodes.proofs.KnownLemmas.{is-truth}
 use Rattle.path_nodes.proofs.LeadingLemmas.{in-step, steps-from, predicates-from, conditions-from, paths-from, stand-first, stand-next, stand-itself, stand-inside}
@@ -54,7 +54,7 @@ filtered-satisfying-requires g t c κs within = (search (rules, the_lemmas), (wi
 pub filtered-returns-in-Number-clause-elements : goal.filtered-returns-in-Number-clause-elements
 unfolding meaning.filtered_by
 filtered-returns-in-Number-clause-elements g t c =
-    rw (c.in-Number.is, view_number) (refer-ok _ _ _ (rw c.args.self.now.root at c.numbered.ensures.there) (rw c.args.self.now.root at c.numbered.ensures.elements))
+    rw (c.in-Number.is, view_number) (rw c.args.self.now.root at c.numbered.ensures)
 
 pub filtered-returns-in-Holds : goal.filtered-returns-in-Holds
 unfolding meaning.filtered_by
@@ -542,7 +542,7 @@ stepped-chosen-requires g t c κs within =
     let parents = c.in_ok-parents.parents in
     let deep = c.args.step.now.deep in
     let offered = parents-inside base deep contexts c.requires.contexts.inside in
-    let members = same-parents deep outer contexts (map (element_of root) parents) (rw c.args.self.now.root at c.in_ok-outer.ensures.members) (rw c.args.self.now.root at c.in_ok-parents.ensures.elements) in
+    let members = same-parents deep outer contexts (map (element_of root) parents) (rw c.args.self.now.root at c.in_ok-outer.ensures.members) (rw c.args.self.now.root at c.in_ok-parents.ensures.are) in
     let inside = same-inside base (map (element_of root) parents) (spec.parents deep contexts) members offered in
     (search (rules, the_lemmas), (within.0, (within.1, (c.requires.contexts.base_is, (rw c.args.self.now.root at c.in_ok-parents.ensures.there, (inside, c.requires.numbered))))))
 
@@ -581,7 +581,7 @@ stepped-returns-clause-elements g t c =
     let parents = map (element_of root) c.in_ok-parents.parents in
     subst (λ es. IfOk c.chosen.result (ReferTo root es))
     (same-offered (spec.kept_children root m (view.step s)) parents (spec.parents s.deep contexts) (elements (plain root))
-    (same-parents s.deep outer contexts parents (rw c.args.self.now.root at c.in_ok-outer.ensures.members) (rw c.args.self.now.root at c.in_ok-parents.ensures.elements))
+    (same-parents s.deep outer contexts parents (rw c.args.self.now.root at c.in_ok-outer.ensures.members) (rw c.args.self.now.root at c.in_ok-parents.ensures.are))
     ∙ stepped-is root m (view.step s) s.deep s.test (form.predicates (map view.predicate s.predicates)) contexts (step-is s))
     c.chosen.ensures.elements
 
@@ -594,7 +594,7 @@ stepped-returns-clause-cost g t c =
     let outer = map (element_of root) c.in_ok-outer.outer in
     let parents = map (element_of root) c.in_ok-parents.parents in
     at-most c.chosen.ensures.cost
-    (few-parents s.deep outer contexts parents (rw c.args.self.now.root at c.in_ok-outer.ensures.once) (rw c.args.self.now.root at c.in_ok-parents.ensures.elements) (price.children_price root m (view.step s)))
+    (few-parents s.deep outer contexts parents (rw c.args.self.now.root at c.in_ok-outer.ensures.once) (rw c.args.self.now.root at c.in_ok-parents.ensures.are) (price.children_price root m (view.step s)))
     (step-price root m (view.step s) s.deep s.test (form.predicates (map view.predicate s.predicates)) contexts (step-is s))
 
 -- ---- led
@@ -703,11 +703,11 @@ kept-returns-clause-cost g t c =
 pub kept_children-returns-clause-elements : goal.kept_children-returns-clause-elements
 kept_children-returns-clause-elements g t c =
     let root = g.G.Ground.root in
-    subst (λ l. IfOk c.kept.result (ReferTo root (spec.kept root g.G.Ground.meaning (view.step c.args.step.now) l))) (rw c.args.self.now.root at c.in_ok-children.ensures.elements) c.kept.ensures.elements
+    subst (λ l. IfOk c.kept.result (ReferTo root (spec.kept root g.G.Ground.meaning (view.step c.args.step.now) l))) (rw c.args.self.now.root at c.in_ok-children.ensures.are) c.kept.ensures.elements
 
 pub kept_children-returns-clause-cost : goal.kept_children-returns-clause-cost
 kept_children-returns-clause-cost g t c =
-    at-price c.kept.ensures.cost (ap (price.list_price g.G.Ground.root g.G.Ground.meaning (view.step c.args.step.now)) (rw c.args.self.now.root at c.in_ok-children.ensures.elements))
+    at-price c.kept.ensures.cost (ap (price.list_price g.G.Ground.root g.G.Ground.meaning (view.step c.args.step.now)) (rw c.args.self.now.root at c.in_ok-children.ensures.are))
 
 -- ---- satisfying
 
