@@ -1,6 +1,6 @@
 //! Rows of places that are kept from one word to the next.
 
-ghost use Rattle.std.specs.Prelude.{◌≡◌, ◌≤◌, ◌<◌, [], length, OnErr, OnOk};
+ghost use Rattle.std.specs.Prelude.{◌≡◌, ◌≤◌, ◌<◌, ◌-◌, ◌^◌, [], length, OnErr, OnOk};
 ghost use Rattle.match_options.specs.PlaceRows.{place_count};
 
 use ft_base::Memory;
@@ -27,6 +27,7 @@ impl PlaceRow {
 
     /// Makes room for a word of so many characters. Where memory runs out, the row stays as it was.
     pub(crate) fn make_room(&mut self, characters: usize) -> Result<(), Memory>
+        requires { characters < 2 ^ 64 - 1 }
         ensures room { OnOk result (characters < place_count self.new) }
         ensures grown { OnOk result (place_count self.old ≤ place_count self.new) }
         ensures kept { OnErr result (place_count self.new ≡ place_count self.old) }
@@ -35,10 +36,7 @@ impl PlaceRow {
         if characters < self.places.len() {
             return Ok(());
         }
-        let Some(count) = characters.checked_add(1) else {
-            return Err(Memory);
-        };
-        self.places = vec![in self.alloc; false; count]?;
+        self.places = vec![in self.alloc; false; characters + 1]?;
         Ok(())
     }
 }
