@@ -4,7 +4,7 @@ use Rattle.std.specs.Bool.{if◌then◌else◌}
 use Rattle.std.specs.List.{All, AllPairs, sum_by}
 use Rattle.std.proofs.lemmas.List.{get_or-map, get_or_default, get_or-set_same, get_or-set_other, length-set, drop_all}
 use Rattle.std.proofs.Math.Seq.{map-set_same}
-use Rattle.std.proofs.lemmas.List.Elements.{All-nil, All-cons, All-head, All-tail, All-same, All-weaker}
+use Rattle.std.proofs.lemmas.List.Elements.{All-nil, All-cons, All-head, All-set, All-tail, All-same, All-weaker}
 use Rattle.std.proofs.lemmas.List.Kept.{AllPairs-cons}
 use Rattle.std.proofs.lemmas.List.Sums.{sum_by-cons}
 use Rattle.ordered_tree.specs.Slots.{slot_at, no_slot, free_from}
@@ -13,6 +13,7 @@ use Rattle.ordered_tree.specs.declared.slot.Held.{Held}
 use Rattle.ordered_tree.specs.declared.slot.Held.TheVariants.{Element, Text, Free}
 use Rattle.ordered_tree.specs.declared.slot.Slot.{Slot}
 use Rattle.ordered_tree.specs.steps.FreeSlots.{is_free, free_numbers, Leads, spare}
+use Rattle.ordered_tree.specs.steps.LinksBelow.{LeadsBelow, LinksBelow}
 use Rattle.ordered_tree.proofs.ApartLemmas.{AllPairs-nil}
 use Rattle.ordered_tree.proofs.PlacingLemmas.{weight, free_weight}
 use Rattle.ordered_tree.proofs.SlotsLemmas.{free_from-none}
@@ -128,6 +129,7 @@ pub record Links (old slots : List Slot) (left : ℕ) (link : Option NodeRef) : 
   pub kept : (number : ℕ) (d : Slot) → (get_or old number d).held ≢ Free → get_or slots number d ≡ get_or old number d
   pub held : map slot_held slots ≡ map slot_held old
   pub linked : (far : ℕ) → length (free_numbers left (drop left old)) ≤ far → free_from far slots link ≡ free_numbers left (drop left old)
+  pub below : (bound : ℕ) → length old ≤ bound → All (LinksBelow bound) old → All (LinksBelow bound) slots × LeadsBelow bound link
 
 pub links-before : (slots : List Slot) (left : ℕ) → left ≡ length slots → Links slots slots left None
 links-before slots left is = record {
@@ -136,6 +138,7 @@ links-before slots left is = record {
   kept = λ number d ne. refl;
   held = refl;
   linked = λ far more. links-none slots slots left far (omega (arith, is));
+  below = λ bound fit all. (all, tt);
 }
 
 module _ (old slots : List Slot) (left k : ℕ) (link : Option NodeRef) (v : Slot) (l : Links old slots left link) (before : k + 1 ≡ left) (is : v ≡ get_or slots k v) where
@@ -162,6 +165,12 @@ module _ (old slots : List Slot) (left k : ℕ) (link : Option NodeRef) (v : Slo
             (ap (λ i. is_free (get_or old i d).held) same ∙ ap (λ (s : Slot). is_free s.held) (get_or_default old k d v there) ∙ free-old))) ∙ l.kept number d ne;
         held = map-set_same slot_held slots k changed v (ap slot_held is) ∙ l.held;
         linked = links-step old slots k link changed v there l.long free-old refl suffix;
+        below = λ bound fit all.
+            let before : All (LinksBelow bound) slots × LeadsBelow bound link = l.below bound fit all in
+            let own : LinksBelow bound v = subst (LinksBelow bound) (sym is) (before.0 k v (omega (arith, there, l.long))) in (
+              All-set (LinksBelow bound) slots k changed (record { first_child = own.first_child; next = before.1; parent = own.parent }) before.0,
+              omega (arith, there, fit),
+            );
       }
 
   pub links-taken : is_free v.held ≡ false → Links old slots k link
@@ -174,6 +183,7 @@ module _ (old slots : List Slot) (left k : ℕ) (link : Option NodeRef) (v : Slo
         kept = l.kept;
         held = l.held;
         linked = λ far more. suffix far (omega (arith, more, ap length same)) ∙ sym same;
+        below = l.below;
       }
     where
       no : (b : Bool) → b ≡ false → (if b then record { 0 = k } ∷ free_numbers (suc k) (drop (suc k) old) else free_numbers (suc k) (drop (suc k) old)) ≡ free_numbers (suc k) (drop (suc k) old)

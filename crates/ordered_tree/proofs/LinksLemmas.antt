@@ -1,14 +1,19 @@
 -- Each link of a node names a node of the document.
-use Rattle.std.proofs.Common.{List, [], map, refl, ap, ◌∙◌, arith}
+use Rattle.std.proofs.Common.{◌≡◌, ℕ, ◌+◌, ◌<◌, ◌≤◌, List, [], map, length, get_or, Option, Some, None, refl, sym, ap, ◌∙◌, arith}
 use Rattle.std.specs.List.{All, Contains}
 use Rattle.std.specs.Option.{IfSome}
 use Rattle.std.proofs.lemmas.List.{get_or-map, length-map}
-use Rattle.std.proofs.lemmas.List.Elements.{All-nil, All-cons, All-head, All-tail, All-append, All-weaker, All-contains_itself}
+use Rattle.std.proofs.lemmas.List.Elements.{All-nil, All-cons, All-head, All-map, All-tail, All-append, All-weaker, All-contains_itself}
+use Rattle.doc_grammar.specs.Limits.{node_count}
+use Rattle.plain_tree.specs.Document.{Node}
 use Rattle.ordered_tree.specs.Numbered.{Numbered, element_at, text_at, Children, no_children, child_then, reference, children, first_of}
+use Rattle.ordered_tree.specs.Numbering.{numbered}
+use Rattle.ordered_tree.specs.Slots.{slot}
 use Rattle.ordered_tree.specs.Stands.{Stand, round_root, round_first, round_next, stands, child_stands, stands_in, references}
 use Rattle.ordered_tree.specs.declared.around.Around.{Around}
 use Rattle.ft_base.specs.declared.ids.NodeRef.{NodeRef}
-use Rattle.ordered_tree.proofs.SlotsLemmas.{All-left, All-right}
+use Rattle.ordered_tree.specs.steps.LinksBelow.{LeadsBelow, LinksBelow}
+use Rattle.ordered_tree.proofs.SlotsLemmas.{All-left, All-right, consecutive, get_or-consecutive, length-consecutive, references-stands}
 
 -- an element of a list is there after a map
 pub Contains-map : (f : Stand → NodeRef) (xs : List Stand) (s : Stand) → Contains xs s → Contains (map f xs) (f s)
@@ -63,3 +68,20 @@ pub root-there : (root : Numbered) → Contains (references root) (reference roo
 unfolding stands
 root-there (element_at r name attrs kids) = (0, omega arith, refl)
 root-there (text_at r bytes) = (0, omega arith, refl)
+
+-- nodes that have the first numbers link to one another
+module _ (n : Node) (bound : ℕ) (few : node_count n ≤ bound) where
+  low-link : (link : Option NodeRef) → IfSome link (There (numbered 0 n)) → LeadsBelow bound link
+  low-link None there = tt
+  low-link (Some r) (k, more, is) =
+      let refs : references (numbered 0 n) ≡ consecutive 0 (node_count n) = references-stands n round_root 0 in
+      let less : k < node_count n = omega (arith, more, ap length refs, length-consecutive (node_count n) 0) in
+      let at : r ≡ record { 0 = 0 + k } = sym is ∙ ap (λ l. get_or l k r) refs ∙ get_or-consecutive (node_count n) 0 k r less in
+      omega (arith, few, less, ap (λ (q : NodeRef). q.0) at)
+
+  pub links-numbered : All (LinksBelow bound) (map slot (stands_in (numbered 0 n)))
+  links-numbered =
+      All-map (LinksBelow bound) slot (stands_in (numbered 0 n))
+      (All-weaker (Linked (numbered 0 n)) (λ s. LinksBelow bound (slot s))
+      (λ s l. record { first_child = low-link (first_of (children s.node)) l.first; next = low-link s.around.next l.next; parent = low-link s.around.parent l.parent })
+      (stands_in (numbered 0 n)) (all-linked (numbered 0 n)))

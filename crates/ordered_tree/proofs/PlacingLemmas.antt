@@ -2,7 +2,7 @@
 use Rattle.std.proofs.Common.{◌≡◌, ◌≢◌, ℕ, ◌+◌, ◌<◌, Bool, true, false, List, [], ◌∷◌, ◌++◌, length, get_or, reverse, set, refl, sym, ap, ◌∙◌, arith, subst, length-append}
 use Rattle.std.specs.List.{All, AllPairs, sum_by}
 use Rattle.std.proofs.lemmas.List.{get_or-set_same, get_or-set_other, length-set, reverse-append}
-use Rattle.std.proofs.lemmas.List.Elements.{All-nil, All-cons, All-head, All-tail, All-append}
+use Rattle.std.proofs.lemmas.List.Elements.{All-nil, All-cons, All-head, All-set, All-tail, All-append}
 use Rattle.std.proofs.lemmas.List.Sums.{sum_by-set}
 use Rattle.plain_tree.specs.declared.tree.Attr.{Attr}
 use Rattle.ordered_tree.specs.Numbered.{Numbered, element_at, text_at, Children, no_children, child_then, reference, first_of}
@@ -13,6 +13,7 @@ use Rattle.ft_base.specs.declared.ids.NodeRef.{NodeRef}
 use Rattle.ordered_tree.specs.declared.ref_tree.RefTree.{RefTree}
 use Rattle.ordered_tree.specs.declared.slot.Slot.{Slot}
 use Rattle.ordered_tree.specs.steps.FreeSlots.{is_free}
+use Rattle.ordered_tree.specs.steps.LinksBelow.{LeadsBelow, LinksBelow}
 use Rattle.ordered_tree.specs.steps.Placing.{Below, AllBelow, placed, all_placed}
 use Rattle.ordered_tree.proofs.SlotsLemmas.{All-left, All-right}
 use Rattle.ordered_tree.proofs.ApartLemmas.{AllPairs-head, AllPairs-tail, AllPairs-left, AllPairs-right, AllPairs-between}
@@ -112,6 +113,34 @@ mutual
         holds = λ e. kept-all_placed ns c middle (reference s.node).0 e (others s (child_stands c ns) (between k d lt)) ∙ i.holds e;
       })
       (in-all_placed ns c middle (below-kept ns slots middle long below.1) (AllPairs-right Apart (stands b n) (child_stands c ns) apart))
+
+-- ---- links
+
+first-below : (bound : ℕ) (ns : Children) → AllBelow bound ns → LeadsBelow bound (first_of ns)
+first-below bound no_children below = tt
+first-below bound (child_then (element_at r name attrs kids) ns) below = below.0.0
+first-below bound (child_then (text_at r bytes) ns) below = below.0
+
+module _ (bound : ℕ) where
+  mutual
+    unfolding placed all_placed
+
+    -- they lead to nodes, and so below each bound of these
+    pub links-placed : (n : Numbered) (a : Around) (slots : List Slot) → Below bound n → LeadsBelow bound a.parent → LeadsBelow bound a.next → All (LinksBelow bound) slots
+        → All (LinksBelow bound) (placed a n slots)
+    links-placed (element_at r name attrs kids) a slots below parent next all =
+        let a1 : Around = round_first a.before r in
+        All-set (LinksBelow bound) (all_placed a1 kids slots) r.0 _ (record { first_child = first-below bound kids below.1; next = next; parent = parent })
+        (links-all_placed kids a1 slots below.1 below.0 all)
+    links-placed (text_at r bytes) a slots below parent next all =
+        All-set (LinksBelow bound) slots r.0 _ (record { first_child = tt; next = next; parent = parent }) all
+
+    links-all_placed : (ns : Children) (a : Around) (slots : List Slot) → AllBelow bound ns → LeadsBelow bound a.parent → All (LinksBelow bound) slots
+        → All (LinksBelow bound) (all_placed a ns slots)
+    links-all_placed no_children a slots below parent all = all
+    links-all_placed (child_then n ns) a slots below parent all =
+        let b : Around = record a { next = first_of ns } in
+        links-all_placed ns (round_next a n) (placed b n slots) below.1 parent (links-placed n b slots below.0 parent (first-below bound ns below.1) all)
 
 -- ---- references that are below a bound
 

@@ -15,10 +15,11 @@ use Rattle.ft_base.specs.declared.ids.NodeRef.{NodeRef}
 use Rattle.ordered_tree.specs.declared.slot.Held.TheVariants.{Free}
 use Rattle.ordered_tree.specs.declared.slot.Slot.{Slot}
 use Rattle.ordered_tree.specs.steps.FreeSlots.{is_free, free_numbers, Leads, spare}
+use Rattle.ordered_tree.specs.steps.LinksBelow.{LinksBelow}
 use Rattle.ordered_tree.specs.steps.Placing.{Below, placed}
 use Rattle.ordered_tree.proofs.ApartLemmas.{AllPairs-left, AllPairs-right, AllPairs-between, AllPairs-append, AllPairs-before_map, All-before_map}
 use Rattle.ordered_tree.proofs.FreeLemmas.{IsFreeNumber, all-free_numbers, apart-free_numbers, length-free_numbers, numbers, all-numbers, apart-numbers, spare-is}
-use Rattle.ordered_tree.proofs.PlacingLemmas.{Apart, IsFreeAt, free_weight, length-placed, in-placed, below-from, count-placed}
+use Rattle.ordered_tree.proofs.PlacingLemmas.{Apart, IsFreeAt, free_weight, length-placed, links-placed, in-placed, below-from, count-placed}
 use Rattle.ordered_tree.proofs.RowLemmas.{length-stands_in}
 use Rattle.ordered_tree.proofs.SlotsLemmas.{All-left, some_node, root_of-is}
 
@@ -38,6 +39,15 @@ module _ (root : Numbered) (count : ℕ) (apart : AllPairs (λ a b. a ≢ b) (re
 
   pub low-empty : Below (length (empty count)) root
   low-empty = subst (λ l. Below l root) (sym (length-replicate count no_slot)) low
+
+  -- their links lead to slots that there are
+  pub links-filled : (bound : ℕ) → count ≤ bound → All (LinksBelow bound) (filled count root)
+  links-filled bound few =
+      links-placed bound root round_root (empty count)
+      (below-from root round_root bound (All-before_map (λ r. r.0 < bound) (λ (s : Stand). reference s.node) (stands_in root)
+      (All-weaker (λ r. r.0 < count) (λ r. r.0 < bound) (λ r h. omega (arith, h, few)) (references root) below)))
+      tt tt
+      (λ k d lt. subst (LinksBelow bound) (sym (get_or-replicate count k no_slot d (omega (arith, lt, length-replicate count no_slot)))) (record { first_child = tt; next = tt; parent = tt }))
 
   stands-apart : AllPairs Apart (stands_in root)
   stands-apart = AllPairs-before_map (λ a b. a ≢ b) (λ (s : Stand). reference s.node) (stands_in root) apart

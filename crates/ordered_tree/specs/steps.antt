@@ -3,6 +3,7 @@ pub mod FreeSlots
 pub mod Gathering
 pub mod Heads
 pub mod Links
+pub mod LinksBelow
 pub mod Parts
 pub mod Passing
 pub mod Placing

@@ -1,10 +1,11 @@
 //! Slots that no node has.
 
-ghost use Rattle.std.specs.Prelude.{◌≡◌, ◌≢◌, ◌+◌, ◌<◌, ◌^◌, ℕ, length, replicate, slice_index_or, IfOk};
+ghost use Rattle.std.specs.Prelude.{◌≡◌, ◌≢◌, ◌+◌, ◌<◌, ◌^◌, ℕ, length, replicate, slice_index_or, All, IfOk};
 ghost use Rattle.ordered_tree.specs.Slots.{free_from, no_slot};
 ghost use Rattle.ordered_tree.specs.declared.slot.Held.TheVariants.{Free};
 ghost use Rattle.ordered_tree.specs.declared.slot.Slot as declared_slot;
 ghost use Rattle.ordered_tree.specs.steps.FreeSlots.{Leads, free_numbers, is_free, spare};
+ghost use Rattle.ordered_tree.specs.steps.LinksBelow.{LinksBelow};
 
 use crate::around::Around;
 use crate::slot::{Held, Slot};
@@ -37,6 +38,7 @@ pub(crate) fn link_free(slots: &mut Vec<Slot>) -> Option<NodeRef>
     ensures kept { (number : ℕ) (d : declared_slot.Slot) → (slice_index_or slots.old.items number d).held ≢ Free
         → slice_index_or slots.new.items number d ≡ slice_index_or slots.old.items number d }
     ensures free { free_from (length slots.new.items) slots.new.items result ≡ free_numbers 0 slots.old.items }
+    ensures below { All (LinksBelow (2 ^ 31)) slots.old.items → All (LinksBelow (2 ^ 31)) slots.new.items }
 {
     let mut free = None;
     let mut left = slots.len();

@@ -1,7 +1,8 @@
 //! What walks over nodes look at of each, side by side in memory.
 
-ghost use Rattle.std.specs.Prelude.{◌≡◌, IfOk, map};
+ghost use Rattle.std.specs.Prelude.{◌≡◌, ◌^◌, All, IfOk, map};
 ghost use Rattle.ordered_tree.specs.steps.Heads as spec;
+ghost use Rattle.ordered_tree.specs.steps.LinksBelow.{LinksBelow};
 
 use crate::element_name::{mark_of, same_mark};
 use crate::link::Link;
@@ -46,27 +47,29 @@ impl Same for Head {
 
 /// The heads of slots, in their order.
 pub(crate) fn heads_of(alloc: Global, slots: &Vec<Slot>) -> Result<Vec<Head>, Memory>
+    requires { All (LinksBelow (2 ^ 31)) slots.now.items }
     ensures { IfOk result (λ heads. heads.items ≡ map spec.head_of slots.now.items) }
 {
     let mut heads = Vec::with_capacity(alloc, slots.len())?;
     for slot in slots.as_slice() {
-        heads.push(head_of(slot)?)?;
+        heads.push(head_of(slot))?;
     }
     Ok(heads)
 }
 
 /// The head of a slot.
-fn head_of(slot: &Slot) -> Result<Head, Memory>
-    ensures { IfOk result (λ head. head ≡ spec.head_of slot.now) }
+fn head_of(slot: &Slot) -> Head
+    requires { LinksBelow (2 ^ 31) slot.now }
+    ensures { result ≡ spec.head_of slot.now }
 {
-    Ok(Head {
-        first_child: Link::to(slot.first_child)?,
-        next: Link::to(slot.around.next)?,
-        parent: Link::to(slot.around.parent)?,
+    Head {
+        first_child: Link::to(slot.first_child),
+        next: Link::to(slot.around.next),
+        parent: Link::to(slot.around.parent),
         mark: mark_of_held(&slot.held),
         before: slot.around.before,
         words: slot.words,
-    })
+    }
 }
 
 /// The mark of what a slot holds.

@@ -4,6 +4,7 @@ ghost use Rattle.std.specs.Prelude.{◌≡◌, ◌≢◌, ℕ, List, length, All
 ghost use Rattle.plain_tree.specs.Document.{Node};
 ghost use Rattle.ordered_tree.specs.Counts.{word_count};
 ghost use Rattle.ordered_tree.specs.Numbered.{Numbered, plain, reference};
+ghost use Rattle.ordered_tree.specs.Numbering.{numbered};
 ghost use Rattle.ordered_tree.specs.Part.{part};
 ghost use Rattle.ordered_tree.specs.Stands.{Stand, stands, stands_in, references, span};
 ghost use Rattle.tokenizer.specs.Tokens.{tokens, words_in};
@@ -18,6 +19,11 @@ pub fn shift_law()
 /// The words of a node are as many as are counted of it.
 pub fn count_law()
     ensures { (n : Node) → length (words_in n) ≡ word_count n }
+{}
+
+/// A document whose nodes get references is the same without them.
+pub fn numbered_law()
+    ensures { (n : Node) (first : ℕ) → plain (numbered first n) ≡ n }
 {}
 
 /// A reference names one node, where no two nodes have the same.

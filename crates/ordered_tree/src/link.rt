@@ -1,9 +1,9 @@
 //! Links between nodes, as heads keep them.
 
-ghost use Rattle.std.specs.Prelude.{◌≡◌, IfOk};
+ghost use Rattle.std.specs.Prelude.{◌≡◌, ◌^◌};
+ghost use Rattle.ordered_tree.specs.steps.LinksBelow.{LeadsBelow};
 
 use crate::NodeRef;
-use ft_base::Memory;
 use std::marker::Model;
 
 /// A link to a node, or to none, in no more memory than the number of a node takes. Contracts see where it leads.
@@ -28,16 +28,14 @@ impl Model for Link {
 }
 
 impl Link {
-    /// The link. Answers `Memory` for the greatest number, which no slot in memory has.
-    pub(crate) fn to(node: Option<NodeRef>) -> Result<Link, Memory>
-        ensures { IfOk result (λ link. link ≡ node) }
+    /// The link to a node, whose number is one of a slot.
+    pub(crate) fn to(node: Option<NodeRef>) -> Link
+        requires { LeadsBelow (2 ^ 31) node }
+        ensures { result ≡ node }
     {
-        let Some(node) = node else {
-            return Ok(Link { kept: 0 });
-        };
-        match node.0.checked_add(1) {
-            Some(kept) => Ok(Link { kept }),
-            None => Err(Memory),
+        match node {
+            Some(node) => Link { kept: node.0 + 1 },
+            None => Link { kept: 0 },
         }
     }
 

@@ -1,7 +1,8 @@
 //! The slots of a tree, in blocks that the trees of a document share.
 
-ghost use Rattle.std.specs.Prelude.{◌≡◌, ◌<◌, length, map, slice_index_or, IfOk};
+ghost use Rattle.std.specs.Prelude.{◌≡◌, ◌<◌, ◌^◌, length, map, slice_index_or, All, IfOk};
 ghost use Rattle.ordered_tree.specs.steps.Heads.{head_of};
+ghost use Rattle.ordered_tree.specs.steps.LinksBelow.{LinksBelow};
 ghost use Rattle.ordered_tree.specs.steps.Parts.{core_of, slot_of, whole, wholes};
 
 use crate::NodeRef;
@@ -53,6 +54,7 @@ pub(crate) struct SlotAt<'a> {
 impl Slots {
     /// The slots of the vector.
     pub(crate) fn from_vec(alloc: Global, slots: Vec<Slot>) -> Result<Slots, Memory>
+        requires { All (LinksBelow (2 ^ 31)) slots.items }
         ensures { IfOk result (λ made. made ≡ slots.items) }
     {
         let Ok(heads) = heads_of(alloc, &slots) else {

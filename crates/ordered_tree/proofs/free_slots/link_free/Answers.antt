@@ -28,5 +28,9 @@ returns-clause-long c = c.loop-left.invariant.long
 pub returns-clause-kept : goal.returns-clause-kept
 returns-clause-kept c = c.loop-left.invariant.kept
 
+pub returns-clause-below : goal.returns-clause-below
+returns-clause-below c all =
+    (c.loop-left.invariant.below 2147483648 (omega (arith, c.requires)) all).0
+
 pub returns-clause-free : goal.returns-clause-free
 returns-clause-free c = links-all c.args.slots.now.items c.loop-left.slots.items c.loop-left.left c.loop-left.free c.loop-left.invariant (omega (arith, c.loop-left-test.false))

@@ -1,15 +1,19 @@
 -- The slots that were filled stand for the document.
 use Rattle.std.proofs.Common.{◌≡◌, ◌≢◌, ℕ, List, length, get_or, sym, ap, ap₂, ◌∙◌, arith, subst}
+use Rattle.std.proofs.lemmas.List.Elements.{All-same}
 use Rattle.doc_grammar.specs.Limits.{node_count}
 use Rattle.ordered_tree.specs.Counts.{element_depth}
 use Rattle.ordered_tree.specs.Numbered.{Numbered, plain}
 use Rattle.ordered_tree.specs.RefView.{ref_node}
 use Rattle.ordered_tree.specs.Slots.{root_of, free_from, IsCounted, IsDocument}
+use Rattle.ordered_tree.specs.Stands.{round_root}
+use Rattle.ordered_tree.specs.declared.around.Around.{Around}
 use Rattle.ordered_tree.specs.declared.slot.Held.TheVariants.{Free}
 use Rattle.ordered_tree.specs.declared.slot.Slot.{Slot}
 use Rattle.ordered_tree.specs.steps.FreeSlots.{free_numbers}
+use Rattle.ordered_tree.specs.steps.LinksBelow.{LinksBelow}
 use Rattle.ordered_tree.specs.steps.Placing.{Below, placed}
-use Rattle.ordered_tree.proofs.ReferencedLemmas.{empty, filled, low-empty, nodes-fit, length-filled, root-is, IsDocument-filled}
+use Rattle.ordered_tree.proofs.ReferencedLemmas.{empty, filled, links-filled, low-empty, nodes-fit, length-filled, root-is, IsDocument-filled}
 use Rattle.ordered_tree.proofs.doc_tree.DocTree.from_referenced.Goals.{In_ok-slots}
 use Rattle.ordered_tree.proofs.doc_tree.DocTree.from_referenced.Goals as goal
 
@@ -27,15 +31,27 @@ place_tree-requires-clause-few_nodes c = omega (arith, nodes-fit (ref_node c.arg
 pub place_tree-requires-clause-few_words : goal.place_tree-requires-clause-few_words
 place_tree-requires-clause-few_words c = omega (arith, ap (λ a. a.before) c.root.ensures, c.requires.few_words)
 
+-- what is placed into empty slots, round which nothing stands
+all-placed : (count : ℕ) (root : Numbered) (around : Around) (before after : List Slot) → around ≡ round_root → before ≡ empty count → after ≡ placed around root before → after ≡ filled count root
+all-placed count root around before after alone none is = is ∙ ap₂ (λ a l. placed a root l) alone none
+
 filled-is : (c : In_ok-slots) → c.place_tree.new.slots.items ≡ filled c.args.slots (ref_node c.args.tree)
 filled-is c =
-    c.in_ok-done.ensures.slots ∙ ap₂ (λ a l. placed a (ref_node c.args.tree) l) c.root.ensures c.in-Ok.ensures
+    all-placed c.args.slots (ref_node c.args.tree) c.root.result c.in-Ok.filled.items c.place_tree.new.slots.items c.root.ensures c.in-Ok.ensures c.in_ok-done.ensures.slots
 
 pub link_free-free-requires : goal.link_free-free-requires
 link_free-free-requires c =
     let root = ref_node c.args.tree in
-    let is : c.place_tree.new.slots.items ≡ filled c.args.slots root = c.in_ok-done.ensures.slots ∙ ap₂ (λ a l. placed a root l) c.root.ensures c.in-Ok.ensures in
+    let is = all-placed c.args.slots root c.root.result c.in-Ok.filled.items c.place_tree.new.slots.items c.root.ensures c.in-Ok.ensures c.in_ok-done.ensures.slots in
     omega (arith, ap length is, length-filled root c.args.slots c.requires.apart c.requires.below, c.requires.few_slots)
+
+pub from_vec-requires : goal.from_vec-requires
+from_vec-requires c =
+    let root = ref_node c.args.tree in
+    c.link_free-free.ensures.below
+    (All-same (LinksBelow 2147483648) c.place_tree.new.slots.items (filled c.args.slots root)
+    (all-placed c.args.slots root c.root.result c.in-Ok.filled.items c.place_tree.new.slots.items c.root.ensures c.in-Ok.ensures c.in_ok-done.ensures.slots)
+    (links-filled root c.args.slots c.requires.apart c.requires.below 2147483648 (omega (arith, c.requires.few_slots))))
 
 module _ (c : In_ok-slots) where
   abbrev root : Numbered

@@ -1,6 +1,8 @@
 -- The slots of all nodes stand for the document, and what was read of its texts are its leaves and the starts in it.
-use Rattle.std.proofs.Common.{◌≡◌, ◌+◌, ◌++◌, [], None, Err, true, map, length, sym, ap, ap₂, ◌∙◌, subst, arith, append-nil}
+use Rattle.std.proofs.Common.{◌≡◌, ◌+◌, ◌++◌, List, [], None, Err, true, map, length, sym, ap, ap₂, ◌∙◌, subst, arith, append-nil}
+use Rattle.std.proofs.lemmas.List.Elements.{All-same}
 use Rattle.doc_grammar.specs.Limits.{node_count}
+use Rattle.plain_tree.specs.Document.{Node}
 use Rattle.plain_tree.specs.View.{node}
 use Rattle.tokenizer.specs.Parts.{parts}
 use Rattle.tokenizer.specs.Tokens.{tokens, tokens_from, sentence_starts, paragraph_starts}
@@ -11,20 +13,39 @@ use Rattle.ordered_tree.specs.Leaves.{texts, leaves, leaves_after}
 use Rattle.ordered_tree.specs.Numbered.{plain}
 use Rattle.ordered_tree.specs.Numbering.{numbered, next_sibling}
 use Rattle.ordered_tree.specs.Slots.{slot, root_of, IsDocument}
-use Rattle.ordered_tree.specs.Stands.{stands, stands_in}
+use Rattle.ordered_tree.specs.Stands.{round_root, stands, stands_in}
+use Rattle.ordered_tree.specs.declared.around.Around.{Around}
+use Rattle.ordered_tree.specs.declared.slot.Slot.{Slot}
 use Rattle.ordered_tree.specs.steps.Gathering.{Gathers}
+use Rattle.ordered_tree.specs.steps.LinksBelow.{LinksBelow}
 use Rattle.ordered_tree.proofs.BuildingLemmas.{plain-numbered, length-filled-root}
+use Rattle.ordered_tree.proofs.LinksLemmas.{links-numbered}
 use Rattle.ordered_tree.proofs.SlotsLemmas.{IsDocument-numbered, root_of-numbered}
 use Rattle.ordered_tree.proofs.doc_tree.DocTree.read.Goals.{After-into_parts-leaves}
 use Rattle.ordered_tree.proofs.doc_tree.DocTree.read.Goals as goal
 
+-- what is added to no slots, round which nothing stands
+all-added : (before after : List Slot) (around : Around) (root doc : Node) → before ≡ [] → around ≡ round_root → root ≡ doc
+    → after ≡ before ++ map slot (stands (record around { next = next_sibling true (length before + node_count root) }) (numbered (length before) root))
+    → after ≡ map slot (stands_in (numbered 0 doc))
+all-added before after around root doc none alone same added =
+    added
+    ∙ ap (λ l. l ++ map slot (stands (record around { next = next_sibling true (length l + node_count root) }) (numbered (length l) root))) none
+    ∙ ap (λ a. map slot (stands (record a { next = None }) (numbered 0 root))) alone
+    ∙ ap (λ n. map slot (stands_in (numbered 0 n))) same
+
+pub from_vec-requires : goal.from_vec-requires
+from_vec-requires c =
+    All-same (LinksBelow 2147483648) c.add_tree.new.slots.items (map slot (stands_in (numbered 0 c.args.doc)))
+    (all-added c.in-Ok.slots.items c.add_tree.new.slots.items c.root.result (node c.into_tree-root.result) c.args.doc c.in-Ok.ensures.items c.root.ensures c.into_tree-root.ensures.tree
+    c.in_ok-added.ensures.slots)
+    (links-numbered c.args.doc 2147483648 (omega (arith, c.requires.few_nodes)))
+
 filled : (c : After-into_parts-leaves) → c.in_ok-slots.slots ≡ map slot (stands_in (numbered 0 c.args.doc))
 filled c =
-    let root = node c.into_tree-root.result in
-    c.in_ok-slots.ensures ∙ c.in_ok-added.ensures.slots
-    ∙ ap (λ l. l ++ map slot (stands (record c.root.result { next = next_sibling true (length l + node_count root) }) (numbered (length l) root))) c.in-Ok.ensures.items
-    ∙ ap (λ a. map slot (stands (record a { next = None }) (numbered 0 root))) c.root.ensures
-    ∙ ap (λ n. map slot (stands_in (numbered 0 n))) c.into_tree-root.ensures.tree
+    c.in_ok-slots.ensures
+    ∙ all-added c.in-Ok.slots.items c.add_tree.new.slots.items c.root.result (node c.into_tree-root.result) c.args.doc c.in-Ok.ensures.items c.root.ensures c.into_tree-root.ensures.tree
+    c.in_ok-added.ensures.slots
 
 -- all words that were seen are the document's
 counted : (c : After-into_parts-leaves) → words_seen c.add_tree.new.read.starts ≡ word_count c.args.doc
