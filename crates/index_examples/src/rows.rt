@@ -4,7 +4,7 @@ ghost use Rattle.std.specs.Prelude.{◌≡◌, ◌∷◌, [], codes, map};
 ghost use Rattle.index_meaning.specs.Entries.{entry};
 ghost use Rattle.index_meaning.specs.Examples.{lower};
 ghost use Rattle.index_meaning.specs.Index.{rows, index};
-ghost use Rattle.index_meaning.specs.Postings.{places, posting_list};
+ghost use Rattle.index_meaning.specs.Postings.{places};
 ghost use Rattle.index_examples.specs.Examples.{two_words, three_words, parted};
 
 /// There is a row for each word of each document, in the order of keys, then words, then documents, then places.
@@ -16,7 +16,6 @@ pub fn rows_of_two_documents()
     ensures places { map (λ row. row.place) (rows lower (two_words ∷ three_words ∷ [])) ≡ 2 ∷ 2 ∷ 1 ∷ 3 ∷ 1 ∷ [] }
     ensures whichever_came_first { rows lower (three_words ∷ two_words ∷ []) ≡ rows lower (two_words ∷ three_words ∷ []) }
     ensures of_one_word { places (codes "a") three_words.document ≡ 1 ∷ 3 ∷ [] }
-    ensures of_one_leaf { map (λ p. p.offset) (posting_list (codes "a") three_words.document) ≡ 0 ∷ 2 ∷ [] }
 {}
 
 /// Beside its rows an index keeps how many words a document has, and where its sentences and its paragraphs start.

@@ -6,7 +6,7 @@ ghost use Rattle.index_meaning.specs.Documents.{leaf_ids, has_leaf, leaf_words, 
 ghost use Rattle.index_meaning.specs.Documents.{document_ids, has_document, document_at, with_document, without_document};
 ghost use Rattle.index_meaning.specs.Examples.{lower, greeting, short, bare, leaf};
 ghost use Rattle.index_meaning.specs.Index.{rows, terms, document_count, index, term_of, IndexRow};
-ghost use Rattle.index_meaning.specs.Postings.{posting_list, place_of, places};
+ghost use Rattle.index_meaning.specs.Postings.{places};
 
 /// The words of a document are those of its leaves, in the order of the leaves, whatever their numbers are.
 pub fn words_of_documents()
@@ -37,14 +37,11 @@ pub fn counted_documents()
     ensures ids { map (λ d. d.id) ((index lower (greeting ∷ bare ∷ [])).documents) ≡ 7 ∷ 5 ∷ [] }
 {}
 
-/// A posting's offset counts in its leaf from 0, and its place in the document from 1.
-pub fn postings_of_words()
-    ensures leaves { map (λ p. p.leaf) (posting_list (codes "world") greeting.document) ≡ 2 ∷ [] }
-    ensures offsets { map (λ p. p.offset) (posting_list (codes "world") greeting.document) ≡ 1 ∷ [] }
-    ensures place { map (place_of greeting.document) (posting_list (codes "world") greeting.document) ≡ 3 ∷ [] }
+/// Places count the words of a document from 1, whatever leaves they are in.
+pub fn places_of_words()
     ensures places { places (codes "world") greeting.document ≡ 3 ∷ [] }
     ensures exact_word { places (codes "hello") greeting.document ≡ 2 ∷ [] }
-    ensures nowhere { posting_list (codes "hell") greeting.document ≡ [] }
+    ensures nowhere { places (codes "hell") greeting.document ≡ [] }
 {}
 
 /// A leaf is known by its number, wherever it stands.
