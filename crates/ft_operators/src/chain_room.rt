@@ -31,7 +31,8 @@ pub(crate) fn wider(left: ChainRoom, right: ChainRoom) -> ChainRoom
     }
 }
 
-/// That of an operand after one more filter, where its includes find room in this memory.
+/// That of an operand after one more filter, where its includes find room in this memory. `None` where either count, which is of 64
+/// bits, is at its end: no memory has a chain of so many.
 pub(crate) fn with_filter(operand: ChainRoom, held: &Vec<Hit>) -> Option<ChainRoom>
     ensures { IfSome result (λ room. (operand.filters + 1 ≤ room.filters) × (operand.hits + vec_capacity held.now ≤ room.hits)) }
 {

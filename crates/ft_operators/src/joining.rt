@@ -11,11 +11,6 @@ pub(crate) fn joined_memory(
 ) -> Result<Vec<Hit>, Memory>
     ensures { IfOk result (λ held. vec_capacity left.now + vec_capacity right.now ≤ vec_capacity held) }
 {
-    match left.capacity().checked_add(right.capacity()) {
-        Some(room) => {
-            let held = Vec::with_capacity(alloc, room)?;
-            Ok(held)
-        }
-        None => Err(Memory),
-    }
+    let held = Vec::with_capacity(alloc, left.capacity() + right.capacity())?;
+    Ok(held)
 }
