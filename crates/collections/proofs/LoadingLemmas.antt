@@ -1,9 +1,9 @@
 -- When a document is loaded or taken out, and when that is refused.
 use Rattle.std.proofs.Common.{◌≡◌, ◌≢◌, ◌∙◌, sym, ap, refl, ℕ, ◌<◌, ◌≤◌, Bool, true, false, cond, ◌||◌, List, [], ◌∷◌, length, map}
-use Rattle.std.specs.Prelude.{Some, Result, Ok, Err, is_some, nat_le, ⊤}
+use Rattle.std.specs.Prelude.{Some, None, Result, Ok, Err, is_some, nat_le, ⊤}
 use Rattle.std.specs.Map.{lookup, remove_entry}
 use Rattle.std.specs.Str.{bytes_eq}
-use Rattle.std.proofs.lemmas.Bool.{lt-ltb, le-ltb}
+use Rattle.std.proofs.lemmas.Bool.{lt-ltb, le-ltb, true≢false}
 use Rattle.std.proofs.lemmas.List.{length-map}
 use Rattle.doc_profile.specs.declared.fault.DocFault.{DocFault}
 use Rattle.doc_profile.specs.declared.fault.DocFault.TheVariants as faults
@@ -12,7 +12,6 @@ use Rattle.ordered_tree.specs.Counts.{word_count}
 use Rattle.ordered_tree.specs.Numbered.{plain}
 use Rattle.ordered_tree.specs.Numbering.{numbered}
 use Rattle.ordered_tree.specs.Stored.{Stored}
-use Rattle.ordered_tree.proofs.BuildingLemmas.{plain-numbered}
 use Rattle.path_meaning.specs.Collection.{Named}
 use Rattle.plain_tree.specs.Document.{Node}
 use Rattle.doc_profile.specs.Readings.{Faults, document_of}
@@ -35,6 +34,13 @@ has_name-lookup name (e ∷ es) =
 pub name-taken : (entries : List (List ℕ × LoadedTree)) (documents : List Named) (name : List ℕ) → map to_document entries ≡ documents
     → has_name name documents ≡ is_some (lookup (bytes_eq name) entries)
 name-taken entries documents name there = ap (has_name name) (sym there) ∙ has_name-lookup name entries
+
+-- nothing has a name that isn't there
+pub lookup-absent : (name : List ℕ) (entries : List (List ℕ × LoadedTree)) → has_name name (map to_document entries) ≡ false → lookup (bytes_eq name) entries ≡ None
+lookup-absent name [] = (λ absent. refl)
+lookup-absent name (e ∷ es) =
+    elim (bytes_eq name e.0) as (λ t. (t || has_name name (map to_document es)) ≡ false → cond t (Some e.1) (lookup (bytes_eq name) es) ≡ None)
+    [ true ↦ (λ same. absurd (true≢false same)) | false ↦ lookup-absent name es ]
 
 -- what is looked for before a document is loaded: whether its name is taken, and whether there is no room for one more
 module _ (entries : List (List ℕ × LoadedTree)) (documents : List Named) (name asked : List ℕ) (there : map to_document entries ≡ documents) (same : name ≡ asked)
@@ -98,5 +104,6 @@ module _ (block : List ℕ) where
   loadable-refused faults.Memory why h other is = absurd (other refl)
 
 -- the document of a tree that was made of it
-pub tree-is : (tree : Stored) (document : Node) → tree ≡ record { root = numbered 0 document; slots = node_count document } → plain tree.root ≡ document
-tree-is tree document made = ap (λ (t : Stored). plain t.root) made ∙ plain-numbered document 0
+pub tree-is : (tree : Stored) (document : Node) → ((n : Node) (first : ℕ) → plain (numbered first n) ≡ n) → tree ≡ record { root = numbered 0 document; slots = node_count document }
+    → plain tree.root ≡ document
+tree-is tree document without made = ap (λ (t : Stored). plain t.root) made ∙ without document 0

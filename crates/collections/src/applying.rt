@@ -118,7 +118,7 @@ fn put_all<L: Ledger>(
     Ok(())
 }
 
-/// Puts the draft of a document in its place.
+/// Puts the draft of a document in its place. Where the tokens are more than 64 bits count, no memory is found.
 fn put<L: Ledger>(
     alloc: Global,
     made: &mut Edited,

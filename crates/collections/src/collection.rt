@@ -221,7 +221,8 @@ impl Collection {
         }
     }
 
-    /// Puts a document after the others, under the next number.
+    /// Puts a document after the others, under the next number. Numbers of documents are of 32 bits, and tokens are counted in 64: where
+    /// either comes to its end, no memory is found.
     fn add<L: Ledger>(
         &mut self,
         name: Line,

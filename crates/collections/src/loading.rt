@@ -7,6 +7,7 @@ use crate::fault::NotLoaded;
 use crate::loaded::Loadable;
 use doc_profile::{DocFault, read_doc};
 use ft_base::Memory;
+use ordered_tree::laws::numbered_law;
 use ordered_tree::load_doc;
 use plain_tree::PlainDoc;
 use std::alloc::Global;
@@ -52,6 +53,7 @@ fn load(alloc: Global, document: PlainDoc, abbreviations: &KeySet) -> Result<Out
     ensures outcome { IfOk result (λ read. outcome read ≡ with_few_tokens (Ok document)) }
     ensures found { IfOk result (IsFoundUnder abbreviations.now) }
 {
+    numbered_law();
     match load_doc(alloc, document, abbreviations) {
         Ok(read) => Ok(Outcome::Document(Loadable { read })),
         Err(TokenFault::Tokens) => Ok(Outcome::NotLoaded(NotLoaded::TooManyTokens)),

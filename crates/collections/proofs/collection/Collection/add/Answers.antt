@@ -1,8 +1,5 @@
 -- The document is the last one, and the version follows it too.
 use Rattle.std.proofs.Common.{◌≡◌, ◌∙◌, sym, ap, rules, List, ◌∷◌, ◌++◌, [], ◌+◌, ℕ, subst, arith}
-use Rattle.std.specs.Map.{lookup}
-use Rattle.std.specs.Str.{bytes_eq}
-use Rattle.ft_base.proofs.Truth.{none_from_test}
 use Rattle.index_meaning.specs.Documents.{has_document, with_document}
 use Rattle.index_updates.specs.Follows.{AreOf, under_tree}
 use Rattle.ordered_tree.specs.Counts.{word_count}
@@ -13,7 +10,7 @@ use Rattle.collections.specs.Loaded.{LoadedTree}
 use Rattle.collections.specs.Documents.{has_name}
 use Rattle.collections.specs.steps.Numbering.{IsKept}
 use Rattle.collections.proofs.NumberingLemmas.{absent, kept-more}
-use Rattle.collections.proofs.LoadingLemmas.{has_name-lookup}
+use Rattle.collections.proofs.LoadingLemmas.{lookup-absent}
 use Rattle.collections.proofs.collection.Collection.add.Goals as goal
 
 pub index_document-made-requires-clause-absent : goal.index_document-made-requires-clause-absent
@@ -32,9 +29,7 @@ invariant_of-self g c = c.self.invariant
 
 pub push-requires : goal.push-requires
 push-requires g c =
-    let entries = c.self.inside.documents in
-    none_from_test (lookup (bytes_eq c.args.name) entries)
-    (sym (has_name-lookup c.args.name entries) ∙ (ap (λ (i : Indexed). has_name c.args.name i.documents) c.self.view_is ∙ c.requires.new))
+    lookup-absent c.args.name c.self.inside.documents (ap (λ (i : Indexed). has_name c.args.name i.documents) c.self.view_is ∙ c.requires.new)
 
 pub invariant_of-self-in-Ok-push : goal.invariant_of-self-in-Ok-push
 invariant_of-self-in-Ok-push g c =
