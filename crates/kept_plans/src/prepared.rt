@@ -115,7 +115,8 @@ impl Prepared {
         self.hits
     }
 
-    /// Whether so many hits more can be counted.
+    /// Whether so many hits more can be counted, which are of 64 bits. Who uses plans asks this first, and finds no memory for them where
+    /// it isn't so.
     pub fn can_count(&self, more: usize) -> bool
         ensures { IsTrue result ↔ (self.now.kept.hits + more < 2 ^ 64) }
     {

@@ -154,7 +154,8 @@ fn put_least<'v, L: Ledger>(
     put_hits(&run.least, spans)
 }
 
-/// Puts the places of hits.
+/// Puts the places of hits. Those of a document end below the greatest number of 32 bits; for a hit there, behind which nothing can be
+/// told, no memory is found.
 fn put_hits(hits: &[Hit], spans: &mut Vec<Span>) -> Result<(), Memory>
     ensures { OnOk result (spans.new.items ≡ spans.old.items ++ spans_of hits.now) }
 {

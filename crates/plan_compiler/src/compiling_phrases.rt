@@ -99,7 +99,7 @@ fn phrase_operator(
     Ok(OperatorPlan::Phrase(numbered_phrase(alloc, reading, phrase, next)?))
 }
 
-/// What the words of the phrase have to be, under the next number.
+/// What the words of the phrase have to be, under the next number. Numbers are of 32 bits: where none is left, no memory is found.
 pub(crate) fn numbered_phrase(
     alloc: Global,
     reading: &Reading<'_>,

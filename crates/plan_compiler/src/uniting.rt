@@ -80,7 +80,7 @@ fn unite_both(
     }
 }
 
-/// The phrase with the next number.
+/// The phrase with the next number. Numbers are of 32 bits: where none is left, no memory is found.
 fn number_phrase(found: PhraseTests, next: &mut u32) -> Result<OperatorPlan, Memory>
     ensures { IfOk result (λ made. Unites next.old next.new (O.Phrase found) made) }
 {

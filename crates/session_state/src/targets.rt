@@ -100,7 +100,7 @@ pub(crate) fn leads_through(root: &PathRoot, name: &Line) -> bool
 }
 
 impl Chosen {
-    /// Puts the elements of one more document after the others.
+    /// Puts the elements of one more document after the others. Where they are more than 64 bits count, no memory has them.
     fn add(&mut self, document: &Loaded, found: NodeRefs) -> Result<(), Memory>
         requires { All (IsElement document.now.tree.root) found }
         ensures refs { OnOk result (self.new.refs ≡ self.old.refs ++ found ∷ []) }

@@ -81,7 +81,8 @@ impl Stamped {
         self.stamps.as_slice()
     }
 
-    /// Loads the block as a document under the name, as `Collection::load` does. A document that comes has a new stamp.
+    /// Loads the block as a document under the name, as `Collection::load` does. A document that comes has a new stamp. Stamps are of
+    /// 64 bits: where none is left, no memory is found.
     pub fn load<L: Ledger>(
         &mut self,
         name: &Line,
@@ -193,7 +194,7 @@ impl Stamped {
         }
     }
 
-    /// Room for new stamps, so that `renew` needs none.
+    /// Room for new stamps, so that `renew` needs none. Where fewer are left than there are documents, no memory is found.
     pub fn renewal(&self) -> Result<Renewal, Memory>
         ensures next { IfOk result (λ renewal. renewal.next ≡ self.now.next + length self.now.stamps) }
     {
