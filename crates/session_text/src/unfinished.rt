@@ -98,11 +98,9 @@ impl OpenBlock {
     fn hold(&mut self, bytes: &[u8]) -> Result<(), Memory>
         ensures { OnOk result (self.new ≡ record self.old { rest = self.old.rest ++ bytes.now }) }
     {
-        let Some(held) = self.held.checked_add(bytes.len()) else {
-            return Err(Memory);
-        };
+        let lines = self.block.len().saturating_sub(self.held);
         self.block.extend_from_slice(bytes)?;
-        self.held = held;
+        self.held = self.block.len() - lines;
         Ok(())
     }
 }
