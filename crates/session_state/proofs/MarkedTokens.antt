@@ -1,10 +1,11 @@
 -- The tokens and the words at the span of an element are its own, so that the places which are found among them are those of its best hits.
-use Rattle.std.proofs.Common.{◌≡◌, ◌∙◌, ◌-◌, ◌++◌, sym, ap, subst, ℕ, zero, suc, List, [], ◌∷◌, arith}
+use Rattle.std.proofs.Common.{◌≡◌, ◌∙◌, ◌-◌, ◌++◌, sym, ap, subst, ℕ, zero, suc, List, [], ◌∷◌, map, arith}
 use Rattle.std.specs.Prelude.{Option, unwrap_or}
 use Rattle.std.specs.List.{slice_range}
 use Rattle.collections.specs.Indexed.{FollowsEach}
 use Rattle.ft_base.specs.declared.ids.NodeRef.{NodeRef}
 use Rattle.ft_base.specs.declared.span.Span.{Span}
+use Rattle.ft_base.specs.declared.token.Token.{Token}
 use Rattle.index_meaning.specs.Documents.{document_at, words_of}
 use Rattle.index_phrases.specs.Tokens.{IsSpan, span_tokens}
 use Rattle.index_updates.specs.Follows.{Follows}
@@ -15,8 +16,8 @@ use Rattle.ordered_tree.specs.Stands.{OnNode, span}
 use Rattle.path_meaning.specs.Elements.{Element}
 use Rattle.path_nodes.specs.References.{IsElement, element_of}
 use Rattle.path_nodes.proofs.SpotLemmas.{spot-stand}
+use Rattle.plain_tree.specs.Document as document
 use Rattle.plan_runs.specs.RunMeaning.{RunMeaning}
-use Rattle.tokenizer.proofs.PartsLemmas.{words-tokens}
 use Rattle.tokenizer.specs.Tokens.{tokens, words_in}
 use Rattle.session_state.specs.MarkedWords.{best_spans}
 use Rattle.session_state.specs.SelectionTests.{AreOver, AreOverEach}
@@ -46,14 +47,16 @@ module _ (abbreviations : List (List ℕ)) (marks : RunMeaning) (doc : ℕ) (roo
       ∙ ap (λ (e : Element). tokens abbreviations e.node) (sym named.is)
 
   -- the words that are lent of it are its own, where none are before them
-  pub element-words : (at : Span) → OnNode root r (λ s. part (tokens abbreviations (plain root)) at ≡ tokens abbreviations (plain s.node)) → (before words : List (List ℕ)) → before ≡ []
+  pub element-words : ((keys : List (List ℕ)) (n : document.Node) → map (λ (token : Token). token.word) (tokens keys n) ≡ words_in n)
+      → (at : Span) → OnNode root r (λ s. part (tokens abbreviations (plain root)) at ≡ tokens abbreviations (plain s.node))
+      → (before words : List (List ℕ)) → before ≡ []
       → words ≡ before ++ slice_range (words_of (document_at doc marks.version)) (at.from - 1) (at.to - 1) → words ≡ words_in (element_of root r).node
-  element-words at own before words none lent =
+  element-words same-words at own before words none lent =
       lent
       ∙ ap (λ ws. ws ++ slice_range (words_of (document_at doc marks.version)) (at.from - 1) (at.to - 1)) none
       ∙ sym (words-at-span abbreviations marks.version doc root marks-follow at (tokens abbreviations (plain named.spot.stand.node))
       (own named.spot.stand (spot-stand root named.spot named.among) named.refers))
-      ∙ words-tokens abbreviations (plain named.spot.stand.node)
+      ∙ same-words abbreviations (plain named.spot.stand.node)
       ∙ ap (λ (e : Element). words_in e.node) (sym named.is)
 
   -- the places that are found are those of the element's best hits

@@ -1,20 +1,19 @@
 -- The selections for which the steps of a path ask are among those that were read with it, and each of those is allowed.
-use Rattle.std.proofs.Common.{◌≡◌, ◌∙◌, ap, ◌+◌, ◌<◌, ◌≤◌, ◌&&◌, true, ℕ, List, [], ◌∷◌, ◌++◌, length, length-append, map, None, subst, refl, Ok, arith}
+use Rattle.std.proofs.Common.{◌≡◌, ◌∙◌, ap, ◌+◌, ◌<◌, ◌≤◌, ◌&&◌, true, ℕ, List, [], ◌∷◌, ◌++◌, length, length-append, map, Option, None, subst, refl, arith}
 use Rattle.std.specs.List.{list_all}
 use Rattle.std.proofs.lemmas.Bool.{and_from}
 use Rattle.std.proofs.lemmas.List.{map-append}
 use Rattle.std.proofs.lemmas.List.Folds.{list_all-append}
 use Rattle.counted_shapes.specs.Accepted.{is_accepted}
-use Rattle.allowed_selections.proofs.Allowed.{selects_accepted}
+use Rattle.ft_base.specs.Selection.{Form}
+use Rattle.ft_parser.specs.Selected.{Selects}
 use Rattle.path_grammar.specs.Form as form
 use Rattle.path_grammar.specs.Form.{joined, or_of, and_of}
 use Rattle.path_grammar.specs.Grammar as grammar
 use Rattle.path_grammar.specs.Grammar.{Inside, Step, Steps, Predicate, Predicates, Ors, Ands, Primary, Rel, Rels, Path}
 use Rattle.selection_grammar.specs.declared.symbol.Placed.{Placed}
-use Rattle.path_subset.specs.Answer.{path_read}
 use Rattle.path_subset.specs.Paths.{PathForm, PlacedForm, placed_form}
-use Rattle.path_subset.specs.Spelled.{Each}
-use Rattle.path_subset.proofs.Spelled.{spelled}
+use Rattle.path_subset.specs.Spelled.{Each, SpellsPath}
 use Rattle.path_nodes.specs.Asked.{OfEach, OfStep, OfPredicates, OfPredicate, OfCondition, OfConditions, OfPaths}
 use Rattle.session_state.specs.Paths.{selections_of}
 
@@ -118,20 +117,20 @@ as-many Each.none = refl
 as-many (Each.further {insides = insides} {found = found} before i x selects) =
     omega (arith, as-many before, length-append insides (i ∷ []), length-append found (placed_form x i.symbols ∷ []))
 
--- the steps of a path that is read ask for its selections alone
-pub read-asks-below : (text : List ℕ) (value : PathForm) → path_read text ≡ Ok value → OfEach (λ k. k < length value.selections) value.path.steps
-read-asks-below text value read =
-    let spells = spelled text value read in
+-- the steps of a path that is read, and so spelled, ask for its selections alone
+pub read-asks-below : (text : List ℕ) (value : PathForm) → SpellsPath text value → OfEach (λ k. k < length value.selections) value.path.steps
+read-asks-below text value spells =
     subst (λ n. OfEach (λ k. k < n) value.path.steps) (as-many spells.selections) (asked-below _ value.path spells.insides spells.spells)
 
-each-accepted : {insides : List Inside} {found : List PlacedForm} → Each insides found → list_all is_accepted (map (λ s. s.form) found) ≡ true
-each-accepted Each.none = refl
-each-accepted (Each.further {insides = insides} {found = found} before i x selects) =
-    ap (list_all is_accepted) (map-append (λ (s : PlacedForm). s.form) found (placed_form x i.symbols ∷ []))
-    ∙ (list_all-append is_accepted (map (λ (s : PlacedForm). s.form) found) (x ∷ [])
-    ∙ and_from (list_all is_accepted (map (λ (s : PlacedForm). s.form) found)) (list_all is_accepted (x ∷ [])) (each-accepted before)
-    (ap (λ b. b && true) (selects_accepted i.symbols None x selects)))
+-- its selections have each `ftnot` and `occurs` where it may stand, as those that symbols make
+module _ (accepted : (symbols : List Placed) (bad : Option ℕ) (x : Form) → Selects symbols bad x → is_accepted x ≡ true) where
+  each-accepted : {insides : List Inside} {found : List PlacedForm} → Each insides found → list_all is_accepted (map (λ s. s.form) found) ≡ true
+  each-accepted Each.none = refl
+  each-accepted (Each.further {insides = insides} {found = found} before i x selects) =
+      ap (list_all is_accepted) (map-append (λ (s : PlacedForm). s.form) found (placed_form x i.symbols ∷ []))
+      ∙ (list_all-append is_accepted (map (λ (s : PlacedForm). s.form) found) (x ∷ [])
+      ∙ and_from (list_all is_accepted (map (λ (s : PlacedForm). s.form) found)) (list_all is_accepted (x ∷ [])) (each-accepted before)
+      (ap (λ b. b && true) (accepted i.symbols None x selects)))
 
--- the selections of a path that is read have each `ftnot` and `occurs` where it may stand
-pub read-is-accepted : (text : List ℕ) (value : PathForm) → path_read text ≡ Ok value → list_all is_accepted (selections_of value) ≡ true
-read-is-accepted text value read = each-accepted (spelled text value read).selections
+  pub read-is-accepted : (text : List ℕ) (value : PathForm) → SpellsPath text value → list_all is_accepted (selections_of value) ≡ true
+  read-is-accepted text value spells = each-accepted spells.selections

@@ -23,11 +23,13 @@ use crate::keeping::keep_accepted;
 use crate::planned::{PlannedPath, open_runs, plan_selections};
 use crate::selected::collect_lines;
 use crate::shown::{Shown, reply_with};
+use allowed_selections::laws::selected_law;
 use collections::{Collection, Documents};
 use command_replies::{Refusal, Reply};
 use ft_base::{Line, Memory, QueryFault, Steps};
 use kept_plans::{KeptPlan, NextPlans, Prepared};
 use path_grammar::PathRoot;
+use path_subset::laws::spelled_law;
 use path_subset::{ReadPath, read_path};
 use plan_compiler::CompileFault;
 use plan_runs::Judge;
@@ -111,6 +113,8 @@ fn ready_read(
     requires { path_read text.now ≡ Ok (read_form path) }
     ensures { IfOk result (IsReady collection.now.documents prepared.now text.now) }
 {
+    spelled_law();
+    selected_law();
     match plans_of(alloc, collection, prepared, text.as_bytes(), &path) {
         Ok(plans) => Ok(Ready::Path(ready_with(prepared, alloc, path, plans)?)),
         Err(PlanFault::Refused(why)) => {

@@ -41,7 +41,8 @@ returns-in-Some-clause-lines g c =
     ∙ ap (λ o. unwrap_or (spans_in o) []) c.in-Some.is in
     let before = map (λ word. word.now) c.clear.new.self.items in
     let words = element-words g.A.Abbreviated.abbreviations c.args.marks.now c.args.doc.0 c.args.tree.now.root c.args.node c.requires.there c.requires.marks
-    at (c.span_of-span.ensures.tokens g.A.Abbreviated.abbreviations) before (map (λ word. word.now) c.lend_words.new.words.items) (ap (map (λ (word : Bor (List ℕ)). word.now)) c.clear.ensures.items)
+    c.words_law.ensures at (c.span_of-span.ensures.tokens g.A.Abbreviated.abbreviations) before (map (λ word. word.now) c.lend_words.new.words.items)
+    (ap (map (λ (word : Bor (List ℕ)). word.now)) c.clear.ensures.items)
     (c.in_ok-lend_words.ensures ∙ ap (λ (v : List Numbered). before ++ slice_range (words_of (document_at c.args.doc.0 v)) (at.from - 1) (at.to - 1)) c.requires.version) in
     subst (λ line. OnOk c.push_line.result (c.push_line.new.lines ≡ c.args.lines.now ++ line ∷ []))
     (ap₂ marked_line (c.as_slice-in-Some.ensures.value ∙ sym found) (ap (map (λ (word : Bor (List ℕ)). word.now)) c.as_slice.ensures.value ∙ words)) c.push_line.ensures.ok
@@ -54,7 +55,8 @@ returns-in-None-clause-lines g c =
     ∙ ap (λ o. unwrap_or (spans_in o) []) c.in-None.is in
     let before = map (λ word. word.now) c.clear.new.self.items in
     let words = element-words g.A.Abbreviated.abbreviations c.args.marks.now c.args.doc.0 c.args.tree.now.root c.args.node c.requires.there c.requires.marks
-    at (c.span_of-span.ensures.tokens g.A.Abbreviated.abbreviations) before (map (λ word. word.now) c.lend_words.new.words.items) (ap (map (λ (word : Bor (List ℕ)). word.now)) c.clear.ensures.items)
+    c.words_law.ensures at (c.span_of-span.ensures.tokens g.A.Abbreviated.abbreviations) before (map (λ word. word.now) c.lend_words.new.words.items)
+    (ap (map (λ (word : Bor (List ℕ)). word.now)) c.clear.ensures.items)
     (c.in_ok-lend_words.ensures ∙ ap (λ (v : List Numbered). before ++ slice_range (words_of (document_at c.args.doc.0 v)) (at.from - 1) (at.to - 1)) c.requires.version) in
     subst (λ line. OnOk c.push_line-in-None.result (c.push_line-in-None.new.lines ≡ c.args.lines.now ++ line ∷ []))
     (ap₂ marked_line (sym found) (ap (map (λ (word : Bor (List ℕ)). word.now)) c.as_slice-in-None.ensures.value ∙ words)) c.push_line-in-None.ensures.ok

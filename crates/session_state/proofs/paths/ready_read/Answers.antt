@@ -10,7 +10,10 @@ use Rattle.session_state.proofs.SelectionNumbers.{read-asks-below, read-is-accep
 use Rattle.session_state.proofs.paths.ready_read.Goals as goal
 
 pub plans_of-requires : goal.plans_of-requires
-plans_of-requires c = read-is-accepted c.args.text.now (read_form c.args.path) c.requires
+plans_of-requires c =
+    let text = c.args.text.now in
+    let p = read_form c.args.path in
+    read-is-accepted c.selected_law.ensures text p ((c.spelled_law.ensures text p).0 c.requires)
 
 pub ready_with-requires : goal.ready_with-requires
 ready_with-requires c =
@@ -37,6 +40,6 @@ returns-in_ok-ready_with-in-Ok c =
       lists = subst (λ (q : PathForm). missing_list prepared.lists (selections_of q) ≡ None) same c.in-Ok.ensures.lists;
       plans = plans ∙ ap (plans_under prepared.lists text) same;
       numbered = subst (λ (q : PathForm). AskBelow (length ready.plans.items) q.path.steps) same
-          (subst (λ n. AskBelow n p.path.steps) (sym as_many) (read-asks-below text p c.requires));
+          (subst (λ n. AskBelow n p.path.steps) (sym as_many) (read-asks-below text p ((c.spelled_law.ensures text p).0 c.requires)));
       next = c.in_ok-ready_with-in-Ok.ensures.next;
     }
