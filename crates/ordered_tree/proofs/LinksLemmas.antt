@@ -83,5 +83,9 @@ module _ (n : Node) (bound : ℕ) (few : node_count n ≤ bound) where
   links-numbered =
       All-map (LinksBelow bound) slot (stands_in (numbered 0 n))
       (All-weaker (Linked (numbered 0 n)) (λ s. LinksBelow bound (slot s))
-      (λ s l. record { first_child = low-link (first_of (children s.node)) l.first; next = low-link s.around.next l.next; parent = low-link s.around.parent l.parent })
+      (λ s l. record {
+        first_child = low-link (first_of (children s.node)) l.first;
+        next = low-link s.around.next l.next;
+        parent = low-link s.around.parent l.parent;
+      })
       (stands_in (numbered 0 n)) (all-linked (numbered 0 n)))

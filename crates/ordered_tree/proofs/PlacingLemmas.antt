@@ -126,12 +126,14 @@ module _ (bound : ℕ) where
     unfolding placed all_placed
 
     -- they lead to nodes, and so below each bound of these
-    pub links-placed : (n : Numbered) (a : Around) (slots : List Slot) → Below bound n → LeadsBelow bound a.parent → LeadsBelow bound a.next → All (LinksBelow bound) slots
+    pub links-placed : (n : Numbered) (a : Around) (slots : List Slot) → Below bound n → LeadsBelow bound a.parent
+        → LeadsBelow bound a.next → All (LinksBelow bound) slots
         → All (LinksBelow bound) (placed a n slots)
     links-placed (element_at r name attrs kids) a slots below parent next all =
-        let a1 : Around = round_first a.before r in
-        All-set (LinksBelow bound) (all_placed a1 kids slots) r.0 _ (record { first_child = first-below bound kids below.1; next = next; parent = parent })
-        (links-all_placed kids a1 slots below.1 below.0 all)
+        let inner : Around = round_first a.before r in
+        All-set (LinksBelow bound) (all_placed inner kids slots) r.0 _
+        (record { first_child = first-below bound kids below.1; next = next; parent = parent })
+        (links-all_placed kids inner slots below.1 below.0 all)
     links-placed (text_at r bytes) a slots below parent next all =
         All-set (LinksBelow bound) slots r.0 _ (record { first_child = tt; next = next; parent = parent }) all
 
@@ -140,7 +142,8 @@ module _ (bound : ℕ) where
     links-all_placed no_children a slots below parent all = all
     links-all_placed (child_then n ns) a slots below parent all =
         let b : Around = record a { next = first_of ns } in
-        links-all_placed ns (round_next a n) (placed b n slots) below.1 parent (links-placed n b slots below.0 parent (first-below bound ns below.1) all)
+        links-all_placed ns (round_next a n) (placed b n slots) below.1 parent
+        (links-placed n b slots below.0 parent (first-below bound ns below.1) all)
 
 -- ---- references that are below a bound
 

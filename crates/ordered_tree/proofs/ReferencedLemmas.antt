@@ -47,7 +47,8 @@ module _ (root : Numbered) (count : ℕ) (apart : AllPairs (λ a b. a ≢ b) (re
       (below-from root round_root bound (All-before_map (λ r. r.0 < bound) (λ (s : Stand). reference s.node) (stands_in root)
       (All-weaker (λ r. r.0 < count) (λ r. r.0 < bound) (λ r h. omega (arith, h, few)) (references root) below)))
       tt tt
-      (λ k d lt. subst (LinksBelow bound) (sym (get_or-replicate count k no_slot d (omega (arith, lt, length-replicate count no_slot)))) (record { first_child = tt; next = tt; parent = tt }))
+      (λ k d lt. subst (LinksBelow bound) (sym (get_or-replicate count k no_slot d (omega (arith, lt, length-replicate count no_slot))))
+      (record { first_child = tt; next = tt; parent = tt }))
 
   stands-apart : AllPairs Apart (stands_in root)
   stands-apart = AllPairs-before_map (λ a b. a ≢ b) (λ (s : Stand). reference s.node) (stands_in root) apart

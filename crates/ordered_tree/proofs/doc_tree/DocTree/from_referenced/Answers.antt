@@ -32,17 +32,21 @@ pub place_tree-requires-clause-few_words : goal.place_tree-requires-clause-few_w
 place_tree-requires-clause-few_words c = omega (arith, ap (λ a. a.before) c.root.ensures, c.requires.few_words)
 
 -- what is placed into empty slots, round which nothing stands
-all-placed : (count : ℕ) (root : Numbered) (around : Around) (before after : List Slot) → around ≡ round_root → before ≡ empty count → after ≡ placed around root before → after ≡ filled count root
+all-placed : (count : ℕ) (root : Numbered) (around : Around) (before after : List Slot) → around ≡ round_root → before ≡ empty count
+    → after ≡ placed around root before → after ≡ filled count root
 all-placed count root around before after alone none is = is ∙ ap₂ (λ a l. placed a root l) alone none
 
 filled-is : (c : In_ok-slots) → c.place_tree.new.slots.items ≡ filled c.args.slots (ref_node c.args.tree)
 filled-is c =
-    all-placed c.args.slots (ref_node c.args.tree) c.root.result c.in-Ok.filled.items c.place_tree.new.slots.items c.root.ensures c.in-Ok.ensures c.in_ok-done.ensures.slots
+    all-placed c.args.slots (ref_node c.args.tree) c.root.result c.in-Ok.filled.items c.place_tree.new.slots.items
+    c.root.ensures c.in-Ok.ensures c.in_ok-done.ensures.slots
 
 pub link_free-free-requires : goal.link_free-free-requires
 link_free-free-requires c =
     let root = ref_node c.args.tree in
-    let is = all-placed c.args.slots root c.root.result c.in-Ok.filled.items c.place_tree.new.slots.items c.root.ensures c.in-Ok.ensures c.in_ok-done.ensures.slots in
+    let is =
+    all-placed c.args.slots root c.root.result c.in-Ok.filled.items c.place_tree.new.slots.items
+    c.root.ensures c.in-Ok.ensures c.in_ok-done.ensures.slots in
     omega (arith, ap length is, length-filled root c.args.slots c.requires.apart c.requires.below, c.requires.few_slots)
 
 pub from_vec-requires : goal.from_vec-requires
@@ -50,7 +54,8 @@ from_vec-requires c =
     let root = ref_node c.args.tree in
     c.link_free-free.ensures.below
     (All-same (LinksBelow 2147483648) c.place_tree.new.slots.items (filled c.args.slots root)
-    (all-placed c.args.slots root c.root.result c.in-Ok.filled.items c.place_tree.new.slots.items c.root.ensures c.in-Ok.ensures c.in_ok-done.ensures.slots)
+    (all-placed c.args.slots root c.root.result c.in-Ok.filled.items c.place_tree.new.slots.items
+    c.root.ensures c.in-Ok.ensures c.in_ok-done.ensures.slots)
     (links-filled root c.args.slots c.requires.apart c.requires.below 2147483648 (omega (arith, c.requires.few_slots))))
 
 module _ (c : In_ok-slots) where

@@ -26,7 +26,8 @@ use Rattle.ordered_tree.proofs.doc_tree.DocTree.read.Goals as goal
 
 -- what is added to no slots, round which nothing stands
 all-added : (before after : List Slot) (around : Around) (root doc : Node) → before ≡ [] → around ≡ round_root → root ≡ doc
-    → after ≡ before ++ map slot (stands (record around { next = next_sibling true (length before + node_count root) }) (numbered (length before) root))
+    → after ≡ before ++ map slot (stands (record around { next = next_sibling true (length before + node_count root) })
+    (numbered (length before) root))
     → after ≡ map slot (stands_in (numbered 0 doc))
 all-added before after around root doc none alone same added =
     added
@@ -37,14 +38,16 @@ all-added before after around root doc none alone same added =
 pub from_vec-requires : goal.from_vec-requires
 from_vec-requires c =
     All-same (LinksBelow 2147483648) c.add_tree.new.slots.items (map slot (stands_in (numbered 0 c.args.doc)))
-    (all-added c.in-Ok.slots.items c.add_tree.new.slots.items c.root.result (node c.into_tree-root.result) c.args.doc c.in-Ok.ensures.items c.root.ensures c.into_tree-root.ensures.tree
+    (all-added c.in-Ok.slots.items c.add_tree.new.slots.items c.root.result (node c.into_tree-root.result) c.args.doc
+    c.in-Ok.ensures.items c.root.ensures c.into_tree-root.ensures.tree
     c.in_ok-added.ensures.slots)
     (links-numbered c.args.doc 2147483648 (omega (arith, c.requires.few_nodes)))
 
 filled : (c : After-into_parts-leaves) → c.in_ok-slots.slots ≡ map slot (stands_in (numbered 0 c.args.doc))
 filled c =
     c.in_ok-slots.ensures
-    ∙ all-added c.in-Ok.slots.items c.add_tree.new.slots.items c.root.result (node c.into_tree-root.result) c.args.doc c.in-Ok.ensures.items c.root.ensures c.into_tree-root.ensures.tree
+    ∙ all-added c.in-Ok.slots.items c.add_tree.new.slots.items c.root.result (node c.into_tree-root.result) c.args.doc
+    c.in-Ok.ensures.items c.root.ensures c.into_tree-root.ensures.tree
     c.in_ok-added.ensures.slots
 
 -- all words that were seen are the document's
