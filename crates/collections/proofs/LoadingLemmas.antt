@@ -36,7 +36,8 @@ pub name-taken : (entries : List (List ℕ × LoadedTree)) (documents : List Nam
 name-taken entries documents name there = ap (has_name name) (sym there) ∙ has_name-lookup name entries
 
 -- nothing has a name that isn't there
-pub lookup-absent : (name : List ℕ) (entries : List (List ℕ × LoadedTree)) → has_name name (map to_document entries) ≡ false → lookup (bytes_eq name) entries ≡ None
+pub lookup-absent : (name : List ℕ) (entries : List (List ℕ × LoadedTree)) → has_name name (map to_document entries) ≡ false
+    → lookup (bytes_eq name) entries ≡ None
 lookup-absent name [] = (λ absent. refl)
 lookup-absent name (e ∷ es) =
     elim (bytes_eq name e.0) as (λ t. (t || has_name name (map to_document es)) ≡ false → cond t (Some e.1) (lookup (bytes_eq name) es) ≡ None)
@@ -104,6 +105,6 @@ module _ (block : List ℕ) where
   loadable-refused faults.Memory why h other is = absurd (other refl)
 
 -- the document of a tree that was made of it
-pub tree-is : (tree : Stored) (document : Node) → ((n : Node) (first : ℕ) → plain (numbered first n) ≡ n) → tree ≡ record { root = numbered 0 document; slots = node_count document }
-    → plain tree.root ≡ document
+pub tree-is : (tree : Stored) (document : Node) → ((n : Node) (first : ℕ) → plain (numbered first n) ≡ n)
+    → tree ≡ record { root = numbered 0 document; slots = node_count document } → plain tree.root ≡ document
 tree-is tree document without made = ap (λ (t : Stored). plain t.root) made ∙ without document 0

@@ -10,7 +10,8 @@ use Rattle.collections.proofs.LoadingLemmas.{tree-is, with_few_tokens-few, with_
 use Rattle.collections.proofs.loading.load.Goals as goal
 
 pub invariant_of-result : goal.invariant_of-result
-invariant_of-result c = record { within = subst (λ n. node_count n ≤ max_nodes) (sym (tree-is c.in-Ok.read.tree c.args.document c.numbered_law.ensures c.in-Ok.ensures.tree)) c.requires.1 }
+invariant_of-result c =
+    record { within = subst (λ n. node_count n ≤ max_nodes) (sym (tree-is c.in-Ok.read.tree c.args.document c.numbered_law.ensures c.in-Ok.ensures.tree)) c.requires.1 }
 
 pub returns-in-Ok-clause-found : goal.returns-in-Ok-clause-found
 returns-in-Ok-clause-found c =
@@ -23,7 +24,9 @@ returns-in-Ok-clause-found c =
     }
 
 pub returns-in-Ok-clause-outcome : goal.returns-in-Ok-clause-outcome
-returns-in-Ok-clause-outcome c = ap Ok (tree-is c.in-Ok.read.tree c.args.document c.numbered_law.ensures c.in-Ok.ensures.tree) ∙ sym (with_few_tokens-few c.args.document c.in-Ok.ensures.few)
+returns-in-Ok-clause-outcome c =
+    ap Ok (tree-is c.in-Ok.read.tree c.args.document c.numbered_law.ensures c.in-Ok.ensures.tree)
+    ∙ sym (with_few_tokens-few c.args.document c.in-Ok.ensures.few)
 
 pub returns-in-Err-Tokens-clause-outcome : goal.returns-in-Err-Tokens-clause-outcome
 returns-in-Err-Tokens-clause-outcome c = sym (with_few_tokens-many c.args.document (c.in-Err-Tokens.ensures.full (ap Err c.in-Err-Tokens.field-0-is)))
