@@ -75,8 +75,10 @@ impl<T: Drop, const BLOCK: usize> SharedList<T, BLOCK> {
         &self.blocks.items(number)[at - self.blocks.start(number)]
     }
 
-    /// How many blocks the items are in.
-    pub fn block_count(&self) -> usize {
+    /// How many blocks the items are in: at least one where there are items.
+    pub fn block_count(&self) -> usize
+        ensures { 0 < length self.now → 0 < result }
+    {
         self.blocks.count()
     }
 
