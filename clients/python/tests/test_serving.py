@@ -69,6 +69,18 @@ def test_a_page_shows_elements_in_reading_order_with_marks(server: Server, libra
     assert page.xpath("//textarea")[0].text.strip() == STORM
 
 
+def test_the_first_page_has_questions_that_find_something(program: Path, tmp_path: Path) -> None:
+    words = "The harbour was crowded with merchants, sailors and their luggage before sunrise"
+    (tmp_path / "a.xml").write_text(f"<d><p>Oh</p><p>{words}</p></d>")
+    with served(program, tmp_path) as server:
+        asked = found(page_of(server, "/"), "//section[@class='begin']//li")
+        assert len(asked) == 4 and asked[1] == 'collection()//p[. contains text "harbour was"]'
+        assert [found(page_of(server, "/", q=it), "//h1") for it in asked] == [["1 element"]] * 4
+    (tmp_path / "a.xml").write_text("<d><p>Oh</p></d>")
+    with served(program, tmp_path) as server:
+        assert found(page_of(server, "/"), "//section[@class='begin']//li")[0] == 'collection()//p[. contains text "storm"]'
+
+
 def test_filters_have_counts_and_lead_to_what_they_count(server: Server) -> None:
     question = 'collection()//*[. contains text "storm"]'
     page = page_of(server, "/", q=question)

@@ -4,10 +4,11 @@ from __future__ import annotations
 
 import re
 from dataclasses import dataclass
+from functools import cached_property
 from typing import Callable, Iterator
 
 from .filters import counted_otherwise
-from .paths import STRING, missing_end
+from .paths import STRING, ended, missing_end
 
 _NAME = r"[\w:][\w:.-]*"
 _OPTION = r"(?:case|diacritics)\s+(?:in)?sensitive|lowercase|uppercase|stemming|wildcards|stop\s+words|thesaurus"
@@ -15,17 +16,28 @@ _KEYWORDS = "CONTAINS|TEXT|FTAND|FTOR|FTNOT|USING|OCCURS|TIMES|ANY|ALL|WORDS?|PH
 _IGNORED = r"[\w.:/*-]+(?:\[[^\]]*\])?(?:\s*\|\s*[\w.:/*-]+(?:\[[^\]]*\])?)*"
 """Paths behind `without content`, as they mostly are, as a pattern."""
 
+_WORDS = r"[^\W_][\w’'*-]*(?:\s+[^\W_][\w’'*-]*)*"
+"""Words that stand there without quotation marks."""
+_BEHIND = "ftand|ftor|and|or|using|occurs|window|distance|same|different|ordered|at|entire|without|not"
+"""What may stand behind a string."""
+
 Put = str | Callable[[re.Match[str]], str]
 
 
 @dataclass(frozen=True)
 class Mistake:
-    """A mistake: the pattern that shows it, the reason, and what stands in the pattern's place (None where nothing can)."""
+    """A mistake: the reason, the expression whose pattern shows it, what stands in the pattern's place (None where nothing can), and a path that has
+    it."""
 
     why: str
-    pattern: re.Pattern[str]
+    expression: str
     put: Put | None
     wrong: str
+
+    @cached_property
+    def pattern(self) -> re.Pattern[str]:
+        """What shows the mistake. It is made when a path is faulty, and not at each start."""
+        return re.compile(self.expression)
 
     def write(self, path: str) -> str | None:
         """The path without this mistake."""
@@ -38,10 +50,6 @@ class Advice:
 
     why: str
     write: str | None
-
-
-def _mistake(why: str, pattern: str, put: Put | None, wrong: str) -> Mistake:
-    return Mistake(why, re.compile(pattern), put, wrong)
 
 
 def _contains_call(told: re.Match[str]) -> str:
@@ -59,321 +67,364 @@ def _singular(told: re.Match[str]) -> str:
 
 
 MISTAKES: list[Mistake] = [
-    _mistake("strings stand in straight quotation marks", "[“”„‟«»]", '"', "collection()//p[. contains text “storm”]"),
-    _mistake("a path begins at the documents", rf"^\s*(?=//?\s*(?:{_NAME}|\*))", "collection()", '//p[. contains text "storm"]'),
-    _mistake(
+    Mistake("strings stand in straight quotation marks", "[“”„‟«»]", '"', "collection()//p[. contains text “storm”]"),
+    Mistake("a path begins at the documents", rf"^\s*(?=//?\s*(?:{_NAME}|\*))", "collection()", '//p[. contains text "storm"]'),
+    Mistake(
         "a path has one step at least; /* leads to the roots",
         rf"^\s*(collection\s*\(\s*\)|doc\s*\(\s*{STRING}\s*\))\s*/*\s*$",
         r"\1/*",
         "collection()",
     ),
-    _mistake("the parentheses belong to it", r"^\s*collection(?=\s*/)", "collection()", "collection//p"),
-    _mistake(
+    Mistake(
+        "a path begins at the documents",
+        rf"^\s*(?!collection\b|doc\b)(?=(?:{_NAME}|\*)\s*(?://?\s*[\w*]|\[))",
+        "collection()//",
+        'p[. contains text "storm"]',
+    ),
+    Mistake("the parentheses belong to it", r"^\s*collection(?=\s*/)", "collection()", "collection//p"),
+    Mistake(
         "there is one collection; a document is named with doc",
         rf"^\s*collection\s*\(\s*({STRING})\s*\)",
         r"doc(\1)",
         'collection("moby")//p',
     ),
-    _mistake("a document's name is a string", r"^\s*doc\s*\(\s*([A-Za-z0-9._/-]+)\s*\)", r'doc("\1")', "doc(moby)//p"),
-    _mistake("the first line of an answer is its count", r"^\s*count\s*\(\s*(.*)\)\s*$", r"\1", "count(collection()//p)"),
-    _mistake(
+    Mistake("a document's name is a string", r"^\s*doc\s*\(\s*([A-Za-z0-9._/-]+)\s*\)", r'doc("\1")', "doc(moby)//p"),
+    Mistake("the first line of an answer is its count", r"^\s*count\s*\(\s*(.*)\)\s*$", r"\1", "count(collection()//p)"),
+    Mistake(
         "a question is one path, without variables and return",
         rf"^\s*for\s+\$\w+\s+in\s+(.*?)\s+where\s+\$\w+(?:/[\w/]*)?\s+contains\s+text\s+({STRING})\s+return\s+.*$",
         r"\1[. contains text \2]",
         'for $p in collection()//p where $p contains text "storm" return $p',
     ),
-    _mistake(
+    Mistake(
         "a question is one path: ask two",
         rf"\s*[|,]\s*(?:collection\s*\(\s*\)|doc\s*\(\s*{STRING}\s*\)|//?\s*[\w:*]).*$",
         "",
         "collection()//p | collection()//title",
     ),
-    _mistake(
+    Mistake(
         "there are no functions of texts; capitals, blanks and markup don't count where words are compared",
         rf"\b(?:lower-case|upper-case|normalize-space|string|data|fn:\w+)\s*\(\s*(\.|{_NAME})\s*\)",
         r"\1",
         'collection()//p[lower-case(.) contains text "storm"]',
     ),
-    _mistake("it is called contains text", r"\bftcontains\b", "contains text", 'collection()//p[. ftcontains "storm"]'),
-    _mistake(
+    Mistake("it is called contains text", r"\bftcontains\b", "contains text", 'collection()//p[. ftcontains "storm"]'),
+    Mistake(
         "contains text stands between the element and the string",
         rf"\bcontains\s*\(\s*(text\(\)|[^,()]+?)\s*,\s*({STRING})\s*\)",
         _contains_call,
         'collection()//p[contains(., "storm")]',
     ),
-    _mistake(
+    Mistake(
+        "attributes are compared by = alone",
+        rf"\b(?:starts-with|ends-with|matches)\s*\(\s*@{_NAME}\s*,\s*{STRING}\s*\)",
+        None,
+        'collection()//book[starts-with(@id, "b")]',
+    ),
+    Mistake(
+        "what stands first or last in an element is found at start or at end",
+        rf"\b(starts|ends)-with\s*\(\s*(text\(\)|[^,()@]+?)\s*,\s*({STRING})\s*\)",
+        lambda told: f"{'.' if told[2] == 'text()' else told[2]} contains text {told[3]} at {told[1][:-1]}",
+        'collection()//p[starts-with(., "storm")]',
+    ),
+    Mistake(
         "contains is followed by text",
         r"\bcontains\s+(?=[\"'{(]|ftnot\b)",
         "contains text ",
         'collection()//p[. contains "storm"]',
     ),
-    _mistake(
+    Mistake(
         "texts are no steps: an element's text is asked for in its brackets",
         r"//?\s*text\s*\(\s*\)\s*$",
         "",
         "collection()//p/text()",
     ),
-    _mistake(
+    Mistake(
         "a period stands for the element with all that is in it",
         r"\btext\s*\(\s*\)",
         ".",
         'collection()//p[text() contains text "storm"]',
     ),
-    _mistake("any element is written *", r"\bnode\s*\(\s*\)", "*", "collection()//p/node()"),
-    _mistake(
+    Mistake("any element is written *", r"\bnode\s*\(\s*\)", "*", "collection()//p/node()"),
+    Mistake(
         "attributes are no steps; an element that has one is asked for in brackets",
         rf"//\s*@({_NAME})",
         r"//*[@\1]",
         "collection()//@id",
     ),
-    _mistake(
+    Mistake(
         "attributes are no steps; an element that has one is asked for in brackets",
         rf"(?<=[\w\])*])/\s*@({_NAME})",
         r"[@\1]",
         "collection()//book/@id",
     ),
-    _mistake(
+    Mistake(
         "the text of attributes isn't searched; their whole value can be asked for",
         rf"@({_NAME})\s+contains\s+text\s+({STRING})",
         r"@\1 = \2",
         'collection()//book[@id contains text "b1"]',
     ),
-    _mistake("an attribute stands alone in its brackets", r"\./\s*@", "@", 'collection()//book[./@id = "b1"]'),
-    _mistake("an attribute's value is a string", rf"@({_NAME})\s*=\s*([0-9]+)", r'@\1 = "\2"', "collection()//book[@id = 1]"),
-    _mistake(
+    Mistake("an attribute stands alone in its brackets", r"\./\s*@", "@", 'collection()//book[./@id = "b1"]'),
+    Mistake("an attribute's value is a string", rf"@({_NAME})\s*=\s*([0-9]+)", r'@\1 = "\2"', "collection()//book[@id = 1]"),
+    Mistake("an attribute's value is a string", rf"@({_NAME})\s*=\s*([^\W\d][\w.:-]*)", r'@\1 = "\2"', "collection()//book[@id = b1]"),
+    Mistake(
         "there is = alone; not( .. ) turns it",
         rf"@({_NAME})\s*!=\s*({STRING}|[0-9]+)",
         r"not(@\1 = \2)",
         'collection()//book[@id != "b1"]',
     ),
-    _mistake("it is written =", rf"@({_NAME})\s+eq\s+", r"@\1 = ", 'collection()//book[@id eq "b1"]'),
-    _mistake(
+    Mistake("it is written =", rf"@({_NAME})\s+eq\s+", r"@\1 = ", 'collection()//book[@id eq "b1"]'),
+    Mistake(
         "attributes are compared by = alone",
         rf"@({_NAME})\s*[<>]=?\s*(?:{STRING}|[0-9]+)",
         None,
         'collection()//book[@year > "1900"]',
     ),
-    _mistake(
+    Mistake(
         "an element's text is searched; only attributes are compared by =",
         rf"(?<=\[)\s*({_NAME}|\.)\s*=\s*({STRING})",
         r"\1 contains text \2",
         'collection()//book[title = "Garden Notes"]',
     ),
-    _mistake(
+    Mistake(
         "a place is a number alone",
         r"\[\s*position\s*\(\s*\)\s*=\s*([0-9]+)\s*\]",
         r"[\1]",
         "collection()//p[position() = 2]",
     ),
-    _mistake("places are counted from the first alone", r"\blast\s*\(\s*\)", None, "collection()//p[last()]"),
-    _mistake(
+    Mistake("places are counted from the first alone", r"\blast\s*\(\s*\)", None, "collection()//p[last()]"),
+    Mistake(
         "a number stands alone in its brackets",
         r"\[\s*([0-9]+)\s+and\s+([^\]]+)\]",
         r"[\2][\1]",
         "collection()//book[1 and @id]",
     ),
-    _mistake(
+    Mistake(
         "no step leads upwards; say in brackets what stands below",
         rf"//\s*({_NAME})((?:\[[^\]]*\])*)/\s*\.\.",
         r"//*[\1\2]",
         'collection()//p[. contains text "storm"]/..',
     ),
-    _mistake(
+    Mistake(
         "between strings it is ftand",
         r"(?<=[\"'})])\s*(?:&&|&|\bAND\b)\s*(?=[\"'{(]|ftnot)",
         " ftand ",
         'collection()//p[. contains text "storm" && "ship"]',
     ),
-    _mistake(
+    Mistake(
         "between strings it is ftor",
         r"(?<=[\"'})])\s*(?:\|\|?|\bOR\b)\s*(?=[\"'{(]|ftnot)",
         " ftor ",
         'collection()//p[. contains text "storm" || "ship"]',
     ),
-    _mistake(
+    Mistake(
         "between strings it is ftand",
         r"(?<=[\"'})])(\s+)and(\s+)(?=[\"'{])",
         r"\1ftand\2",
         'collection()//p[. contains text "storm" and "ship"]',
     ),
-    _mistake(
+    Mistake(
         "between strings it is ftor",
         r"(?<=[\"'})])(\s+)or(\s+)(?=[\"'{])",
         r"\1ftor\2",
         'collection()//p[. contains text "storm" or "ship"]',
     ),
-    _mistake(
+    Mistake(
         "the strings of one value are divided by commas",
         rf"\{{\s*{STRING}(?:[\s,;|]*{STRING})+\s*\}}",
         lambda told: "{" + ", ".join(re.findall(STRING, told[0])) + "}",
         'collection()//p[. contains text {"storm" "ship"} all]',
     ),
-    _mistake(
+    Mistake(
+        "how near strings stand is said behind all of them, which are put together by ftand",
+        rf"({STRING})\s+((?:same|different)\s+(?:sentence|paragraph))\s+(?:as\s+|and\s+)?({STRING})",
+        r"\1 ftand \3 \2",
+        'collection()//p[. contains text "storm" same sentence "ship"]',
+    ),
+    Mistake(
+        "words near each other are asked for by a window",
+        rf"({STRING})\s+(?:near|NEAR|close\s+to|next\s+to)\s+({STRING})",
+        r"\1 ftand \2 window 10 words",
+        'collection()//p[. contains text "storm" near "ship"]',
+    ),
+    Mistake(
         "between strings it is ftand, or a blank inside one string",
         r"(?<=[\"'])(\s+)(?=[\"'{])",
         r" ftand ",
         'collection()//p[. contains text "storm" "ship"]',
     ),
-    _mistake(
+    Mistake(
+        "words stand in quotation marks, and between strings it is ftand or ftor",
+        rf"(\btext\s+)({_WORDS}?)\s+(and|or)\s+({_WORDS})(?=\s*\])",
+        r'\1"\2" ft\3 "\4"',
+        "collection()//p[. contains text storm and ship]",
+    ),
+    Mistake(
+        "words stand in quotation marks",
+        rf"(\btext\s+|(?:\bftand|\bftor|\bftnot)\s+)(?!ftnot\b)({_WORDS}?)(?=\s*(?:[\])]|$|\b(?:{_BEHIND})\b))",
+        r'\1"\2"',
+        "collection()//p[. contains text heavy storm]",
+    ),
+    Mistake(
         "without a string is ftand ftnot",
         r"(?<=[\"'})])\s+(?:ftnot|but\s+not|except)\s+(?=[\"'{(])",
         " ftand ftnot ",
         'collection()//p[. contains text "storm" ftnot "night"]',
     ),
-    _mistake(
+    Mistake(
         "between strings it is ftnot",
         r"(\btext\s+|\bftand\s+|\bftor\s+|\()not\s+(?=[\"'{])",
         lambda told: f"{told[1]}ftnot ",
         'collection()//p[. contains text "storm" ftand not "night"]',
     ),
-    _mistake(
+    Mistake(
         "not has parentheses",
         r"(\[|\band\s+|\bor\s+)not\s+((?:\.|@|\w)[^\]]*)(?=\])",
         r"\1not(\2)",
         'collection()//p[not . contains text "storm"]',
     ),
-    _mistake(
+    Mistake(
         "keywords are written small",
         rf"(?<![\"'\w/])(?:{_KEYWORDS})(?![\"'\w])",
         lambda told: told[0].lower(),
         'collection()//p[. CONTAINS TEXT "storm"]',
     ),
-    _mistake(
+    Mistake(
         "an option begins with using",
         rf"\bwith(?:out)?\s+({_OPTION})",
         _using,
         'collection()//p[. contains text "storm" with stemming]',
     ),
-    _mistake(
+    Mistake(
         "what is left out of the search stands behind without content",
         r"\b(?:(?:without|ignor(?:e|ing)|except|exclud(?:e|ing)|skip(?:ping)?)(?:\s+the)?(?:\s+contents?\b)?(?:\s+(?:of|in)\b)?)\s+(?=[\w.*/])(?!content\b)",
         "without content ",
         'collection()//p[. contains text "storm" without note]',
     ),
-    _mistake(
+    Mistake(
         "behind it stands what is left out: NAME for children, .//NAME at any depth",
         r"\bwithout\s+content\s*(?=[\])]|$)",
         None,
         'collection()//p[. contains text "storm" without content]',
     ),
-    _mistake(
+    Mistake(
         "what is ignored is named from the element on: NAME is a child, .//NAME any below",
         rf"(\bwithout\s+content\s+|\|\s*)(?:collection\s*\(\s*\)|doc\s*\(\s*{STRING}\s*\))?\s*(//?)\s*(?=[\w*])",
         lambda told: told[1] + (".//" if told[2] == "//" else ""),
         'collection()//p[. contains text "storm" without content //note]',
     ),
-    _mistake(
+    Mistake(
         "a blank stands before the period, which would be one of the name",
         r"\bcontent\.(?=[\s/\]|])",
         "content .",
         'collection()//p[. contains text "storm" without content.//note]',
     ),
-    _mistake(
+    Mistake(
         "names are no strings",
         rf"(\bwithout\s+content\s+|\|\s*)[\"']({_NAME})[\"']",
         r"\1\2",
         'collection()//p[. contains text "storm" without content "note"]',
     ),
-    _mistake(
+    Mistake(
         "elements are ignored; those that have an attribute are named so",
         rf"(\bwithout\s+content\s+|\|\s*)(?:\.//?)?@({_NAME})",
         r"\1.//*[@\2]",
         'collection()//p[. contains text "storm" without content @n]',
     ),
-    _mistake(
+    Mistake(
         "several paths are divided by | and have no parentheses",
         r"(\bwithout\s+content\s*)\(([^()]*)\)",
         lambda told: f"{told[1].rstrip()} " + re.sub(r"\s*,\s*", " | ", told[2]),
         'collection()//p[. contains text "storm" without content (note, fn)]',
     ),
-    _mistake(
+    Mistake(
         "several paths are divided by |",
         rf"(\bwithout\s+content\s+{_IGNORED})\s*(?:,|\|\||\bunion\b|\bftor\b|&&?)\s*",
         r"\1 | ",
         'collection()//p[. contains text "storm" without content note, fn]',
     ),
-    _mistake(
+    Mistake(
         "without content stands last, behind the whole selection",
         rf"\s*\bwithout\s+content\s+({_IGNORED})\s+((?:ftand|ftor|not\s+in|using|occurs|window|distance|same|different|ordered|at|entire)\b[^\]]*?)(?=\s*\])",
         r" \2 without content \1",
         'collection()//p[. contains text "big storm" without content note same sentence]',
     ),
-    _mistake(
+    Mistake(
         "without content stands last, behind the whole selection",
         rf"\s*\bwithout\s+content\s+({_IGNORED})\s*\)([^\]]*?)(?=\s*\])",
         r")\2 without content \1",
         'collection()//p[. contains text ("storm" without content note) ftand "ship"]',
     ),
-    _mistake(
+    Mistake(
         "without content stands in the brackets, behind the selection",
         rf"(contains\s+text\s+[^\[\]]*)\]\s*without\s+content\s+({_IGNORED})",
         r"\1 without content \2]",
         'collection()//p[. contains text "storm"] without content note',
     ),
-    _mistake(
+    Mistake(
         "the option's name is another",
         r"\busing\s+(wildcard|stems?|stemmer|stop\s*words?)(?![\w ]|s\b)(?!\s*\()",
         _singular,
         'collection()//p[. contains text "sto.*" using wildcard]',
     ),
-    _mistake(
+    Mistake(
         "an option begins with using",
         rf"(?<=[\"'}})])\s+({_OPTION})",
         r" using \1",
         'collection()//p[. contains text "Storm" case sensitive]',
     ),
-    _mistake(
+    Mistake(
         "there is no search by similarity; a pattern finds spellings",
         r"\s*\busing\s+fuzzy(?:\s+[0-9]+\s+errors)?",
         "",
         'collection()//p[. contains text "storm" using fuzzy]',
     ),
-    _mistake(
+    Mistake(
         "a number of times is exactly, at least, at most or from .. to",
         r"\boccurs\s+([0-9]+)",
         r"occurs exactly \1",
         'collection()//p[. contains text "the" occurs 3 times]',
     ),
-    _mistake(
+    Mistake(
         "a number of times ends with times",
         r"\boccurs\s+((?:exactly|at\s+least|at\s+most)\s+[0-9]+|from\s+[0-9]+\s+to\s+[0-9]+)(?![0-9]|\s+times)",
         r"occurs \1 times",
         'collection()//p[. contains text "the" occurs at least 2]',
     ),
-    _mistake(
+    Mistake(
         "a window has a unit",
         r"\bwindow\s+([0-9]+)(?![0-9]|\s+(?:words|sentences|paragraphs))",
         r"window \1 words",
         'collection()//p[. contains text "storm" ftand "ship" window 5]',
     ),
-    _mistake(
+    Mistake(
         "a distance is exactly, at least, at most or from .. to",
         r"\bdistance\s+([0-9]+)(?:\s+(?:words)?)?",
         r"distance at most \1 words",
         'collection()//p[. contains text "storm" ftand "ship" distance 5 words]',
     ),
-    _mistake(
+    Mistake(
         "words near each other are asked for by a window",
         r"\b(?:within|near)\s+([0-9]+)(?:\s+words)?",
         r"window \1 words",
         'collection()//p[. contains text "storm" ftand "ship" within 5 words]',
     ),
-    _mistake(
+    Mistake(
         "a quote inside a string is doubled",
         r"\\([\"'])",
         r"\1\1",
         'collection()//p[. contains text "the \\"big\\" storm"]',
     ),
-    _mistake("names are as they are written, with their prefix", r"\*:(?=\w)", "", "collection()//*:p"),
-    _mistake("a path ends with a name", r"\s*/+\s*$", "", "collection()//p/"),
-    _mistake("there are no comments in a path", r"\(:.*?:\)", "", "collection()//p(: paragraphs :)"),
-    _mistake(
+    Mistake("names are as they are written, with their prefix", r"\*:(?=\w)", "", "collection()//*:p"),
+    Mistake("a path ends with a name", r"\s*/+\s*$", "", "collection()//p/"),
+    Mistake("there are no comments in a path", r"\(:.*?:\)", "", "collection()//p(: paragraphs :)"),
+    Mistake(
         "a question is a path; a string stands in brackets after contains text",
         rf"^\s*({STRING}(?:.*\S)?)\s*$",
         r"collection()//*[. contains text \1]",
         '"storm" ftand "ship"',
     ),
-    _mistake(
+    Mistake(
         "a question is a path; a string stands in brackets after contains text",
         r"^\s*([\w’' -]+?)\s*$",
         r'collection()//*[. contains text "\1"]',
@@ -441,4 +492,5 @@ def _repairs(path: str, kind: str, column: int) -> Iterator[Advice]:
         yield Advice(mistake.why, mistake.write(path))
     missing = missing_end(path)
     if missing:
-        yield Advice(f"it isn't closed: {missing} is missing", path + missing)
+        written = ended(path)
+        yield Advice(f"it isn't closed: {missing[0] if written != path + missing else missing} is missing", written)

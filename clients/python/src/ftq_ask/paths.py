@@ -40,7 +40,7 @@ def symbols(path: str) -> list[Symbol]:
 
 
 def missing_end(path: str) -> str:
-    """What a text lacks to its end: the quote of an open string and the brackets that are open."""
+    """What a text lacks to its end: the quote of an open string and the brackets that are open. `ended` puts it there."""
     ends = []
     quote = ""
     for symbol in symbols(path):
@@ -51,6 +51,17 @@ def missing_end(path: str) -> str:
         elif ends and symbol.text == ends[-1]:
             ends.pop()
     return quote + "".join(reversed(ends))
+
+
+def ended(path: str) -> str:
+    """A text with what it lacks to its end. Where a string is open that ends in brackets, these are taken for those of the path."""
+    missing = missing_end(path)
+    if missing[:1] in "\"'" and missing:
+        bare = path.rstrip(")] ")
+        closed = bare + missing[0] + path[len(bare) :]
+        if len(path[len(bare) :].strip()) == len(missing) - 1 and not missing_end(closed):
+            return closed
+    return path + missing
 
 
 def path_in(line: str) -> str:

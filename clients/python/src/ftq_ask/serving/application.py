@@ -24,6 +24,7 @@ from .addresses import Addresses, number_of, once, wish_of
 from .answering import Over, Part, Refused, Wish, answer, over, refused
 from .desk import Busy, Desk
 from .documents import Block, Sheets
+from .examples import examples_of
 from .guard import Guard, Unwanted
 from .questions import Question
 
@@ -81,15 +82,6 @@ def collected(desk: Desk) -> Collected:
     return Collected(desk.folder, len(it.sources), f"{it.bytes / 1e6:,.1f}", names, [str(untaken) for untaken in it.untaken])
 
 
-def examples_of(desk: Desk) -> list[str]:
-    """Questions to begin with, of names that the collection has."""
-    known = desk.collection.vocabulary.elements
-    usual = [it for it in ("p", "para", "l", "section", "chapter", "title", "item") if it in known]
-    name = usual[0] if usual else next(iter(sorted(known, key=lambda it: -known[it])), "p")
-    asked = ['"storm"', '"heavy storm"', '"storm" ftand "ship" window 10 words', '"regist.*" using wildcards']
-    return [f"collection()//{name}[. contains text {it}]" for it in asked]
-
-
 async def in_turn(desk: Desk, question: Question, parts: Iterator[Something]) -> AsyncIterator[Something]:
     """The parts of an answer, each worked out in a thread; where nobody reads on, the question is given up."""
     step: Future[Something | None] | None = None
@@ -138,6 +130,7 @@ class Served:
     def __init__(self, desk: Desk, port: int, further: Mapping[str, Callable[[Request], Any]] = {}) -> None:
         """Before a desk, at a port; `further` are requests by POST that are answered besides."""
         self._desk = desk
+        self._begun: list[str] = []
         routes = [
             Route("/", self._query, methods=["GET"]),
             Route("/document", self._document, methods=["GET"]),
@@ -158,7 +151,7 @@ class Served:
         wish = wish_of(_values(request))
         question = await self._begin() if wish.path else None
         parts = answer(self._desk, question, wish) if question else iter(())
-        return self._page("query.html", question, wish, parts, examples=examples_of(self._desk))
+        return self._page("query.html", question, wish, parts, examples=[] if wish.path else self._examples())
 
     async def _document(self, request: Request) -> Response:
         values = _values(request)
@@ -172,7 +165,13 @@ class Served:
         form = once(parse_qsl((await body_of(request, "application/x-www-form-urlencoded")).decode("utf-8", errors="replace")))
         self._desk.stop(form.get("id", ""))
         said = Over("the question was stopped", True)
-        return self._page("query.html", None, Wish(""), iter([said]), examples=examples_of(self._desk))
+        return self._page("query.html", None, Wish(""), iter([said]), examples=self._examples())
+
+    def _examples(self) -> list[str]:
+        """Questions to begin with, which are those of the documents as they were when they were first needed."""
+        if not self._begun:
+            self._begun = examples_of(self._desk.collection)
+        return self._begun
 
     def _page(self, template: str, question: Question | None, wish: Wish, parts: Iterator[Any], **values: Any) -> Response:
         """A page that is sent as the parts of an answer come."""
