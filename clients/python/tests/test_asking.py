@@ -291,6 +291,30 @@ def test_a_list_of_abbreviations_that_cant_be_taken_is_named(ask: Ask, folder: P
     assert ran.returncode == 2 and "ask: there are lists of abbreviations for de, en, fr, and klingon is none of these and no file" in ran.stderr
 
 
+def test_an_empty_question_says_so(ask: Ask, folder: Path) -> None:
+    ran = ask(folder / "voyages.xml", "--query", " ", "--query", "collection()/book", "--count")
+    assert ran.returncode == 2 and ran.stdout == "1 collection()/book\n"
+    assert ran.stderr.startswith("ask: the question is empty: ")
+
+
+def test_what_an_edit_brings_is_known(ask: Ask, folder: Path) -> None:
+    typed = 'insert first doc("voyages.xml")/book\n<new:one k="1">here</new:one><two/>\n.\ncollection()//two\ncollection()//*[@k]\nnames\n'
+    shown = ask(folder / "voyages.xml", typed=typed).stdout
+    assert "hint" not in shown and "new:one 1" in shown and "two 1" in shown and "k 1" in shown
+
+
+def test_a_large_folder_is_divided_among_programs_by_itself(ask: Ask, tmp_path: Path, monkeypatch: pytest.MonkeyPatch) -> None:
+    """With enough bytes of files for two programs, in order and in bytes as with one; what isn't taken comes in its order too."""
+    for number in range(12):
+        inside = "</r>" if number in (4, 9) else f"<p n='{number}'>storm {number}</p>" + "<!-- " + " " * 800_000 + " -->"
+        (tmp_path / f"{number:02}.xml").write_text(f"<r>{inside}</r>")
+    questions = [STORM, 'collection()//p[. contains text "storms"]', "collection()//q[", 'doc("03.xml")//p', "collection()//r[3]"]
+    words = [tmp_path, "--no-cache", *(it for path in questions for it in ("--query", path))]
+    one, several = ask(*words, "--workers", "1"), ask(*words)
+    assert (several.stdout, several.stderr, several.returncode) == (one.stdout, one.stderr, one.returncode)
+    assert one.stdout.count("storm ") == 11 and one.stderr.index("04.xml") < one.stderr.index("09.xml")
+
+
 def test_several_programs_answer_as_one(ask: Ask, tmp_path: Path) -> None:
     for number in range(23):
         (tmp_path / f"d{number:02}.xml").write_text(f"<doc><p>number {number} {'even' if number % 2 == 0 else 'odd'}</p></doc>")

@@ -97,6 +97,42 @@ def test_what_has_changed_is_read_anew(folder: Path, tmp_path: Path, name: str, 
     assert one(cache, folder / name)[0] != first
 
 
+def test_what_looks_the_same_is_found_without_being_read(folder: Path, tmp_path: Path, monkeypatch: pytest.MonkeyPatch) -> None:
+    path = folder / "001.xml"
+    opened: list[Path] = []
+    whole = Path.read_bytes
+
+    def read_bytes(self: Path) -> bytes:
+        opened.append(self)
+        return whole(self)
+
+    monkeypatch.setattr(Path, "read_bytes", read_bytes)
+
+    def found() -> tuple[bool, bool]:
+        """Whether it was found, and whether it was read."""
+        opened.clear()
+        cache = Cache(tmp_path / "c.sqlite")
+        with Reader(Rules(), cache, processes=0) as reader:
+            (row,) = reader.read([path])
+        was_read = path in opened
+        assert isinstance(row, Reading) and row.content == read_file(path).content
+        return cache.found > 0, was_read
+
+    # Of a file that was changed just now another change might not show.
+    assert [found() for _ in range(3)] == [(False, True), (True, True), (True, True)]
+    monkeypatch.setattr(caching, "RECENT", -1.0)
+    assert [found() for _ in range(3)] == [(True, True), (True, False), (True, False)]
+    told = path.stat()
+    path.write_bytes(whole(path).replace(b"storm", b"stork"))
+    os.utime(path, ns=(told.st_atime_ns, told.st_mtime_ns))
+    assert path.stat().st_size == told.st_size and path.stat().st_mtime_ns == told.st_mtime_ns
+    assert [found() for _ in range(2)] == [(False, True), (True, False)]
+    other = folder / "other.xml"
+    other.write_text("<r>another</r>")
+    os.replace(other, path)
+    assert not found()[0]
+
+
 def test_what_is_read_otherwise_isnt_found(folder: Path, tmp_path: Path, monkeypatch: pytest.MonkeyPatch) -> None:
     cache, path = tmp_path / "c.sqlite", folder / "001.xml"
     assert not one(cache, path)[1] and one(cache, path)[1]

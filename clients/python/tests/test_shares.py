@@ -15,7 +15,7 @@ import pytest
 
 pytest.importorskip("lxml")
 
-from ftq_ask.shares import LeftOut, Shares, divided, local_shares  # noqa: E402
+from ftq_ask.shares import LeftOut, Shares, divided, in_turn, local_shares  # noqa: E402
 from ftq_client import BadLine, NameTaken, NoSuchDocument, NoSuchList, NoSuchName, QueryFault, Session  # noqa: E402
 
 
@@ -26,6 +26,13 @@ def test_documents_are_divided_in_order_and_by_size() -> None:
     assert divided([], 3) == []
     placed = divided([7, 3, 9, 1, 1, 30, 2], 4)
     assert placed == sorted(placed) and set(placed) <= {0, 1, 2, 3}
+
+
+def test_documents_are_loaded_into_all_shares_beside_each_other() -> None:
+    assert in_turn([1] * 6, [0, 0, 0, 1, 1, 1]) == [0, 3, 1, 4, 2, 5]
+    assert in_turn([4, 1, 1, 1, 1, 4], [0, 1, 1, 1, 1, 0]) == [0, 1, 2, 3, 4, 5]
+    assert in_turn([1, 1, 9, 9], [0, 0, 1, 1]) == [0, 2, 1, 3]
+    assert in_turn([], []) == []
 
 
 def filled(shares: Shares, count: int) -> Shares:
@@ -84,6 +91,14 @@ def one_session(program: Path, count: int) -> Session:
 def test_local_programs_answer_as_one(program: Path) -> None:
     shares, one = filled(local_shares(3, program), 20), one_session(program, 20)
     check(shares, one)
+    for line in ('explain "a" ftand ("a" ftor "b")', 'explain "a" ft'):
+        faults = []
+        for engine in (shares, one):
+            try:
+                faults.append(str(engine.command(line)))
+            except QueryFault as fault:
+                faults.append(str(fault))
+        assert faults[0] == faults[1]
     assert shares.close() == 1 and one.close() == 1
 
 

@@ -15,6 +15,7 @@ from ftq_client import Element, QueryFault, Refusal, name_word
 
 from . import pages
 from .collection import Collection
+from .elements import Elements
 from .locating import FileLines, Located
 from .marking import Marking, hint_of
 from .mistakes import FAULTS, Advice, Fault, advice_for
@@ -99,7 +100,7 @@ class Output:
         self._objects: list[dict[str, Any]] = []
         self._has_page = False
 
-    def write(self, path: str, count: int, shown: list[Element], told: list[str], marking: Marking) -> None:
+    def write(self, path: str, count: int, shown: Elements, told: list[str], marking: Marking) -> None:
         """Writes an answer: how many elements a question has found, those that are shown, and the hints."""
         if self.many and self.form in ("text", "paths"):
             self.out.write(f"==> {path} <==\n")
@@ -115,7 +116,7 @@ class Output:
             hints = [*told, *hint_of(marking, self.collection)]
             self.out.writelines(pages.answer(path, counted(count), (self._page_element(it, marking) for it in shown), self.offset + 1, hints))
         elif self.form == "paths":
-            self.out.writelines(f"{it.line}\n" for it in shown)
+            self.out.writelines(f"{it}\n" for it in shown.lines)
         elif self.form == "vimgrep":
             rows = (vimgrep(self.collection.locator.locate(it), marking.of(it), self._files) for it in shown)
             self.out.writelines(f"{it}\n" for it in rows if it)
@@ -145,10 +146,10 @@ class Output:
         rows = self.manner.rows(located, words) if located.shown.strip() else []
         return pages.element(located, located.first_mark(words)[0], rows, shown_attributes(located))
 
-    def _found(self, shown: list[Element], marking: Marking) -> list[dict[str, Any]]:
+    def _found(self, shown: Elements, marking: Marking) -> list[dict[str, Any]]:
         return [row_of(self.collection.locator.locate(it), marking.of(it), self.manner) for it in shown]
 
-    def _csv(self, path: str, shown: list[Element], marking: Marking) -> None:
+    def _csv(self, path: str, shown: Elements, marking: Marking) -> None:
         """A line of names, then one for each element."""
         if self._rows is None:
             names = ["document", "file", "line", "path", "text", "marks", "marked_line"]
@@ -248,6 +249,8 @@ def say_refusal(
             say(console, Text(f"    {advice.why}" + ("; write:" if advice.write else ""), "yellow"))
             if advice.write:
                 say(console, Text(f"    {advice.write}", "green"))
+    elif refusal.number == 1 and not path.strip():
+        say(console, Text(f'{prefix}the question is empty: a question is a path, such as collection()//p[. contains text "storm"]', "red"))
     else:
         say(console, Text(prefix + in_words(refusal), "red"))
 

@@ -28,7 +28,14 @@ BYTES_AT_ONCE = 16_000_000
 RECENT = 60.0
 """For how many seconds a file beside another one has to have been as it is, so that what was read can't be older than it."""
 
-_TABLE = "CREATE TABLE IF NOT EXISTS readings (key BLOB PRIMARY KEY, told TEXT, content BLOB, digest BLOB, day INTEGER)"
+_TABLES = (
+    "CREATE TABLE IF NOT EXISTS readings (key BLOB PRIMARY KEY, told TEXT, content BLOB, digest BLOB, day INTEGER)",
+    "CREATE TABLE IF NOT EXISTS files (path BLOB PRIMARY KEY, look TEXT, own BLOB, day INTEGER)",
+)
+"""What was read, and of each file the digest of its bytes, for as long as the file looks as it did."""
+
+DAYS = 60
+"""For how many days it is kept how a file looks that nobody asks for."""
 
 State = tuple[int, int] | None
 """A file's size and time, by which a change shows; None where there is none."""
@@ -60,13 +67,17 @@ class Cache:
         self._database: sqlite3.Connection | None = None
         self._rows: list[tuple[bytes, str, bytes, bytes, int]] = []
         self._used: list[tuple[int, bytes]] = []
+        self._looks: list[tuple[bytes, str, bytes, int]] = []
         self.found = 0
         """How many files were found again."""
         self._open()
 
-    def get(self, path: Path, data: bytes, rules: Rules) -> Reading | None:
-        """What was read of a file that holds these bytes; None where it wasn't, or where something beside it has changed since."""
-        own = hashlib.blake2b(data, digest_size=16).digest()
+    def get(self, path: Path, rules: Rules) -> Reading | None:
+        """What was read of a file with the bytes that it has now; None where it wasn't, or where something beside it has changed since."""
+        try:
+            own = self._own(path)
+        except OSError:
+            return None
         for key in _keys(path, own, rules):
             for told, content, digest, day in self._done("SELECT told, content, digest, day FROM readings WHERE key = ?", key):
                 reading = _reading(path, own, json.loads(told), content) if _digest(told, content) == digest else None
@@ -76,6 +87,21 @@ class Cache:
                         self._used.append((_today(), key))
                     return reading
         return None
+
+    def _own(self, path: Path) -> bytes:
+        """The digest of a file's bytes. It is read only where it looks otherwise than when that was last worked out: the system sets the time of a
+        file's last change itself, so that one which has looked the same for a while has changed since only if its looks have."""
+        name, told = os.fsencode(os.path.abspath(path)), path.stat()
+        look = repr((told.st_dev, told.st_ino, told.st_size, told.st_mtime_ns, told.st_ctime_ns))
+        for kept, day in self._done("SELECT own, day FROM files WHERE path = ? AND look = ?", name, look):
+            if day != _today():
+                self._looks.append((name, look, kept, _today()))
+            return bytes(kept)
+        data = path.read_bytes()
+        own = hashlib.blake2b(data, digest_size=16).digest()
+        if len(data) == told.st_size and max(told.st_mtime_ns, told.st_ctime_ns) < (time.time() - RECENT) * 1e9:
+            self._looks.append((name, look, own, _today()))
+        return own
 
     def put(self, path: Path, reading: Reading, rules: Rules) -> None:
         """Keeps what was read of a file."""
@@ -98,15 +124,18 @@ class Cache:
 
     def flush(self) -> None:
         """Writes what is to be kept: all of it or, where that is cut off, or another program is writing all the time, nothing."""
-        rows, used = self._rows, self._used
-        self._rows, self._used = [], []
+        rows, used, looks = self._rows, self._used, self._looks
+        self._rows, self._used, self._looks = [], [], []
         with self._lock:
-            if self._database is None or not (rows or used):
+            if self._database is None or not (rows or used or looks):
                 return
             try:
                 with self._database:
                     self._database.executemany("INSERT OR REPLACE INTO readings VALUES (?, ?, ?, ?, ?)", rows)
                     self._database.executemany("UPDATE readings SET day = ? WHERE key = ?", used)
+                    self._database.executemany("INSERT OR REPLACE INTO files VALUES (?, ?, ?, ?)", looks)
+                    if looks:
+                        self._database.execute("DELETE FROM files WHERE day < ?", (_today() - DAYS,))
                     if rows:
                         self._trim(self._database)
             except sqlite3.Error:
@@ -132,7 +161,8 @@ class Cache:
                     self._database = sqlite3.connect(self._path, timeout=2.0, check_same_thread=False)
                     self._database.execute("PRAGMA journal_mode = WAL")
                     self._database.execute("PRAGMA synchronous = NORMAL")
-                    self._database.execute(_TABLE)
+                    for table in _TABLES:
+                        self._database.execute(table)
                     return
                 except sqlite3.OperationalError:
                     break

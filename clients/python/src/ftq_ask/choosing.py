@@ -131,6 +131,21 @@ class Choice:
         return None if path.suffix.lower() == ".xml" else _kind_of(path)
 
 
+def bytes_at(arguments: list[Path], most: int) -> int:
+    """About how many bytes the files have that the arguments name, no further than `most`."""
+    whole = 0
+    for argument in arguments:
+        files = _files_in(os.fspath(argument), ()) if argument.is_dir() else iter([((), False)])
+        for parts, _ in files:
+            try:
+                whole += os.stat(os.path.join(argument, *parts)).st_size
+            except OSError:
+                continue
+            if whole >= most:
+                return most
+    return whole
+
+
 def _kind_of(path: Path) -> str | None:
     """What a file's first bytes say that it is; None for an XML document."""
     try:

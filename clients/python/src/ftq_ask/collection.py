@@ -12,7 +12,6 @@ from ftq_client import (
     BadLine,
     ClientError,
     DocumentFault,
-    Element,
     Full,
     Names,
     NothingToShow,
@@ -26,14 +25,15 @@ from ftq_client import (
 
 from .abbreviating import Abbreviations
 from .choosing import PART, Choice
+from .elements import Elements
 from .engines import Loading
 from .lists import NoList, Stems, stop_words, usual_stem
 from .locating import Locator, Source
 from .mistakes import Fault
 from .paths import DOCUMENTS, is_said, path_in, quoted, symbols, with_apostrophes
 from .loading import Reader
-from .reading import Reading, Rules, Vocabulary, names_of, read_file, read_tree, without_empty_lines
-from .shares import Shares, divided
+from .reading import Reading, Rules, Vocabulary, names_of, names_of_nodes, read_file, read_tree, without_empty_lines
+from .shares import Shares, divided, in_turn
 from .spellings import Spellings
 from .trees import Untaken
 
@@ -46,13 +46,15 @@ EDITS = ("insert", "replace", "delete")
 
 @dataclass(frozen=True)
 class Planned:
-    """A file that is to be loaded: its path as it is shown, its path, its document's name, its share, and whether it was named itself."""
+    """A file that is to be loaded: its path as it is shown, its path, its document's name, its share, whether it was named itself, and how many bytes it
+    has, which is told where there are several shares."""
 
     shown: Path
     path: Path
     name: str
     share: int
     named: bool
+    size: int = 0
 
 
 class Collection:
@@ -104,7 +106,9 @@ class Collection:
         count = self.engine.count if isinstance(self.engine, Shares) else 1
         sizes = [path.stat().st_size if count > 1 and path.exists() else 0 for _, path in found]
         shares = divided(sizes, count)
-        planned = [Planned(shown, path, self._names.name_for(shown), share, path in named) for (shown, path), share in zip(found, shares)]
+        planned = [
+            Planned(shown, path, self._names.name_for(shown), share, path in named, size) for (shown, path), share, size in zip(found, shares, sizes)
+        ]
         if self.session_format > 1:
             bare = Names()
             self._by_bare_names = {bare.name_for(it.shown): it.name for it in planned}
@@ -112,11 +116,14 @@ class Collection:
 
     def load(self, planned: list[Planned], step: Callable[[Path], None]) -> None:
         """Reads and loads files; `step` is told of each. What isn't taken is noted with the reason, and the rest goes on."""
-        documents = self._read_all(planned, step)
-        if isinstance(self.engine, (Shares, Loading)):
-            self.engine.load_all(documents, self._done)
+        if isinstance(self.engine, Shares):
+            order = in_turn([it.size for it in planned], [it.share for it in planned])
+            self.engine.load_all(self._read_all([planned[it] for it in order], step), self._done)
+            self._put_in_order(planned)
+        elif isinstance(self.engine, Loading):
+            self.engine.load_all(self._read_all(planned, step), self._done)
         else:
-            for _, name, content in documents:
+            for _, name, content in self._read_all(planned, step):
                 fault = None
                 try:
                     self.engine.load(name, content)
@@ -124,6 +131,17 @@ class Collection:
                     fault = error
                 self._done(name, fault)
         self._leave_parts(planned)
+
+    def _put_in_order(self, planned: list[Planned]) -> None:
+        """Puts what is known of documents that were loaded into several shares into their order."""
+        sources = {it.name: self.sources.pop(it.name) for it in planned if it.name in self.sources}
+        for source in sources.values():
+            self.vocabulary.remove(source.vocabulary)
+        for name, source in sources.items():
+            self.sources[name] = source
+            self.vocabulary.add(source.vocabulary)
+        places = {it.path: number for number, it in enumerate(planned)}
+        self.untaken.sort(key=lambda it: places.get(it.named, -1))
 
     def _leave_parts(self, planned: list[Planned]) -> None:
         """Takes out the files of folders that stand in others as wholes, and so are read with them: those that were loaded, and those that can't
@@ -176,7 +194,7 @@ class Collection:
         """Gives the stop list of a language to the program, under the language's name."""
         self.engine.stop(language, stop_words(language))
 
-    def query(self, path: str) -> list[Element]:
+    def query(self, path: str) -> Elements:
         """The elements that a path selects."""
         return self.found(f"query {path}", path)
 
@@ -184,9 +202,9 @@ class Collection:
         """The lines of the elements that a path selects, where there are many and few of them are looked at."""
         return self._lines("query ", path)
 
-    def found(self, line: str, path: str) -> list[Element]:
+    def found(self, line: str, path: str) -> Elements:
         """The elements that a command with this path at its end finds, be it of now or of a mark."""
-        return [Element.read(it) for it in self._lines(line.removesuffix(path), path)]
+        return Elements(self._lines(line.removesuffix(path), path))
 
     def printed(self, path: str) -> list[str]:
         """The elements that a path selects, as XML."""
@@ -275,7 +293,7 @@ class Collection:
         edited = self._documents_of(path_in(line)) if kind in EDITS else set()
         reply = self.engine.command(line, block)
         for name in edited & self.sources.keys():
-            self.sources[name] = replace(self.sources[name], edited=True)
+            self._note_edit(name, names_of_nodes(block) if block else Vocabulary())
         if kind == "load" and block is not None:
             self.vocabulary.add(names_of(block))
         elif kind == "drop":
@@ -283,6 +301,15 @@ class Collection:
         elif kind == "stems":
             self.has_stems = True
         return reply
+
+    def _note_edit(self, name: str, came: Vocabulary) -> None:
+        """A document was edited, by which these names came into it. Those that went with the edit may still be counted as its own."""
+        source = self.sources[name]
+        new = came.less(source.vocabulary)
+        own = Vocabulary(*({**mine} for mine in (source.vocabulary.elements, source.vocabulary.attributes, source.vocabulary.roots)))
+        own.add(new)
+        self.vocabulary.add(new)
+        self.sources[name] = replace(source, edited=True, vocabulary=own)
 
     def _texts(self) -> Iterator[str]:
         """The texts of the files that were loaded, as they are now."""

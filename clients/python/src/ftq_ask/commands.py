@@ -10,7 +10,6 @@ from pathlib import Path
 from typing import Any
 
 from rich.console import Console
-from rich.progress import BarColumn, MofNCompleteColumn, Progress, TextColumn, TimeElapsedColumn
 
 from ftq_client import ClientError, Refusal, TimedOut, find_program
 
@@ -18,16 +17,19 @@ from . import answers
 from .abbreviating import Abbreviations
 from .caching import Cache, cache_file
 from .calls import read_words
-from .choosing import Choice, rules_of
+from .choosing import Choice, bytes_at, rules_of
 from .collection import Collection, Planned
 from .engines import engine_of
 from .lists import NoList, Stems
-from .loading import Reader
+from .loading import MOST_PROCESSES, Reader
 from .marking import Marking, hint_of
 from .missing import all_hints
 from .shares import scheduled_shares
 
 FOUND, NONE, FAULT = 0, 1, 2
+
+BYTES_EACH = 4_000_000
+"""How many bytes of files are enough to do for a program."""
 
 
 def main(arguments: list[str]) -> int:
@@ -75,6 +77,8 @@ def main(arguments: list[str]) -> int:
         os.dup2(os.open(os.devnull, os.O_WRONLY), sys.stdout.fileno())
         return FAULT
     finally:
+        # A program that is ended at once needn't give back piece by piece what it holds.
+        collection.engine.interrupt()
         collection.engine.close()
 
 
@@ -83,7 +87,14 @@ def _engine(options: argparse.Namespace) -> Any:
     program = options.program or find_program()
     if options.scheduler:
         return scheduled_shares(options.scheduler, options.workers, program)
-    return engine_of(program, options.workers)
+    return engine_of(program, options.workers or (_usual_workers(options) if options.query else 1))
+
+
+def _usual_workers(options: argparse.Namespace) -> int:
+    """Among how many programs the documents are divided where the call doesn't say: among as many as there are processors, where there is enough to do
+    for each. That is for calls with --query, which ask nothing that isn't divided."""
+    most = min(MOST_PROCESSES, len(os.sched_getaffinity(0)))
+    return max(1, bytes_at(options.paths, most * BYTES_EACH) // BYTES_EACH)
 
 
 def reader_of(options: argparse.Namespace) -> Reader:
@@ -122,6 +133,8 @@ def loaded(collection: Collection, start: float) -> str:
 
 
 def _load_with_bar(collection: Collection, planned: list[Planned], errors: Console) -> None:
+    from rich.progress import BarColumn, MofNCompleteColumn, Progress, TextColumn, TimeElapsedColumn
+
     columns = (TextColumn("loading"), BarColumn(), MofNCompleteColumn(), TimeElapsedColumn(), TextColumn("{task.description}"))
     with Progress(*columns, console=errors, transient=True) as progress:
         task = progress.add_task("", total=len(planned))

@@ -10,7 +10,7 @@ from typing import Any, Callable, Iterable
 from ftq_client import Refusal, Session, SessionFull, command_bytes
 from ftq_client.program import Process
 
-from .shares import Shares
+from .shares import Document, Faults, Shares
 
 MOST_SENT = 16
 """How many documents are sent before the reply to the first of them is looked at."""
@@ -22,7 +22,13 @@ Done = Callable[[str, Exception | None], None]
 class Loading(Session):
     """A session whose program has always something to read while it loads."""
 
-    def load_all(self, documents: Iterable[tuple[int, str, bytes]], done: Done) -> None:
+    def load_group(self, documents: list[Document]) -> Faults:
+        """Loads some documents; tells of each the fault, if there was one."""
+        faults: Faults = {}
+        self.load_all(documents, faults.__setitem__)
+        return faults
+
+    def load_all(self, documents: Iterable[Document], done: Done) -> None:
         """Loads documents, each with a share that doesn't matter here, one after the other."""
         sent: deque[tuple[str, bytes]] = deque()
         process = self._process

@@ -8,7 +8,7 @@ from pathlib import Path
 from typing import Callable, Iterable
 
 from .paths import asked_strings
-from .words import WORD, key, words_of
+from .words import key, word_pattern, words_of
 
 STOP_FOLDERS = "/usr/share/postgresql"
 STOP_PACKAGE = "postgresql"
@@ -74,7 +74,7 @@ def usual_stem() -> Callable[[str], str] | None:
 
 def _is_word(text: str) -> bool:
     """Whether the program takes a text for one word, for certain."""
-    return bool(WORD.fullmatch(text)) and not re.search(r"[_.:·‧,;]", text)
+    return bool(word_pattern().fullmatch(text)) and not re.search(r"[_.:·‧,;]", text)
 
 
 def stop_words(language: str) -> bytes:

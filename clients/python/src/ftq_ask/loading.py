@@ -2,21 +2,22 @@
 
 from __future__ import annotations
 
-import ctypes
 import os
 import queue
 import signal
 import threading
 from collections import deque
-from concurrent.futures import BrokenExecutor, Future, ProcessPoolExecutor
-from multiprocessing import get_context
+from concurrent.futures import BrokenExecutor, Future
 from pathlib import Path
 from types import TracebackType
-from typing import Iterator, TypeVar, Union
+from typing import TYPE_CHECKING, Iterator, TypeVar, Union
 
 from .caching import Cache
 from .reading import Reading, Rules, read_file
 from .trees import Untaken
+
+if TYPE_CHECKING:
+    from concurrent.futures import ProcessPoolExecutor
 
 Row = TypeVar("Row")
 Read = Union[Reading, Untaken]
@@ -62,8 +63,7 @@ class Reader:
         """Each file, or why it isn't taken."""
         if self._processes > 1 and len(paths) > GROUP and self._is_much(paths):
             # The processes are started by the thread that ends last, since they end with it, and before there are others.
-            self._pool = ProcessPoolExecutor(self._processes, get_context("fork"), _begin, (os.getpid(),))
-            self._pool.submit(os.getpid).result()
+            self._pool = _begun_pool(self._processes)
         if len(paths) <= GROUP:
             return (it for group in self._groups(paths) for it in group)
         return (it for group in ahead(self._groups(paths), AHEAD) for it in group)
@@ -71,7 +71,7 @@ class Reader:
     def _is_much(self, paths: list[Path]) -> bool:
         """Whether there is much to read that wasn't read before, by some of the files."""
         some = paths[:: max(1, len(paths) // 12)]
-        unknown = [it for it in some if not (self._cache and self._cache.get(it, _bytes_of(it), self._rules))]
+        unknown = [it for it in some if not (self._cache and self._cache.get(it, self._rules))]
         return sum(map(_size_of, unknown)) * len(paths) / len(some) > FEW_BYTES
 
     def _groups(self, paths: list[Path]) -> Iterator[list[Read]]:
@@ -96,7 +96,7 @@ class Reader:
         return read_group(paths, self._rules)
 
     def _known(self, path: Path) -> Reading | None:
-        return self._cache.get(path, _bytes_of(path), self._rules) if self._cache else None
+        return self._cache.get(path, self._rules) if self._cache else None
 
     def _joined(self, group: list[Path], known: dict[Path, Reading], read: Future[list[Read]] | list[Read]) -> list[Read]:
         """The files of a group in their order; what was read anew is kept. Where a process has ended before its time, they are read here."""
@@ -161,19 +161,25 @@ def ahead(rows: Iterator[Row], most: int) -> Iterator[Row]:
         thread.join()
 
 
+def _begun_pool(processes: int) -> ProcessPoolExecutor:
+    """Processes that read. What they need is imported here, since a start that reads nothing anew does without it."""
+    import ctypes  # noqa: F401
+    from concurrent.futures import ProcessPoolExecutor
+    from multiprocessing import get_context
+
+    pool = ProcessPoolExecutor(processes, get_context("fork"), _begin, (os.getpid(),))
+    pool.submit(os.getpid).result()
+    return pool
+
+
 def _begin(parent: int) -> None:
     """A process that reads is not interrupted, and ends where the one that it reads for has ended."""
+    import ctypes
+
     signal.signal(signal.SIGINT, signal.SIG_IGN)
     ctypes.CDLL(None).prctl(_END_WITH_PARENT, signal.SIGKILL)
     if os.getppid() != parent:
         os._exit(1)
-
-
-def _bytes_of(path: Path) -> bytes:
-    try:
-        return path.read_bytes()
-    except OSError:
-        return b""
 
 
 def _size_of(path: Path) -> int:

@@ -16,11 +16,12 @@ from prompt_toolkit.key_binding import KeyBindings, KeyPressEvent
 from rich.console import Console
 from rich.text import Text
 
-from ftq_client import LATEST_FORMAT, ClientError, Element, Found, ProgramEnded, Refusal, Said, TimedOut
+from ftq_client import LATEST_FORMAT, ClientError, Found, ProgramEnded, Refusal, Said, TimedOut
 from ftq_client.blocks import BLOCK_WORDS
 
 from . import answers
 from .collection import Collection
+from .elements import Elements
 from .completing import ASKING, LANGUAGE, PathCompleter
 from .marking import Marking, hint_of
 from .missing import all_hints
@@ -75,8 +76,7 @@ class Conversation:
         self.collection = collection
         self.out = out
         self._marking = Marking("", collection)
-        self._found: list[Element] = []
-        self._rest: list[Element] = []
+        self._found = self._rest = Elements([])
 
     def do(self, typed: str) -> bool:
         """Does what was typed; False where it ends the conversation."""

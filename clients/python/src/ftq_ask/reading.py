@@ -51,6 +51,12 @@ class Vocabulary:
                     del mine[name]
 
 
+    def less(self, other: "Vocabulary") -> "Vocabulary":
+        """The names that another one doesn't have."""
+        pairs = ((self.elements, other.elements), (self.attributes, other.attributes), (self.roots, other.roots))
+        return Vocabulary(*({name: count for name, count in mine.items() if name not in theirs} for mine, theirs in pairs))
+
+
 @dataclass(frozen=True)
 class Rules:
     """What is read beside a file: its document type, what it includes, and what catalogs know of; and whether white space between elements
@@ -235,6 +241,12 @@ def names_of(content: bytes) -> Vocabulary:
     """The names in a document that the program has taken."""
     root = etree.fromstring(content, _parser(_Resolver(Path(os.devnull), Rules()), huge=True, doctypes=False))
     return _names(etree.tostring(root, encoding="UTF-8", xml_declaration=False))
+
+
+def names_of_nodes(content: bytes) -> Vocabulary:
+    """The names in nodes that the program has put into a document."""
+    known = names_of(b"<_>" + content + b"</_>")
+    return Vocabulary({it: 1 for it in known.elements if it != "_"}, known.attributes)
 
 
 @lru_cache(maxsize=64)

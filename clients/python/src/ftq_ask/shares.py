@@ -11,8 +11,7 @@ from __future__ import annotations
 
 import io
 import tempfile
-import zipfile
-import zlib
+from collections import deque
 from concurrent.futures import Future, ThreadPoolExecutor, wait
 from pathlib import Path
 from typing import Any, Callable, Iterable, TypeVar
@@ -43,6 +42,20 @@ MOST_MOVES = 5
 
 LOOK_SECONDS = 1.0
 """How long an answer from another machine is awaited before it is looked whether that machine is still there."""
+
+
+MOST_TOGETHER = 16
+BYTES_TOGETHER = 250_000
+"""How many documents are given to a share together, and of how many bytes at most, when many are loaded."""
+
+MOST_GROUPS = 3
+"""How many such groups wait for each share."""
+
+Document = tuple[int, str, bytes]
+"""A document that is to be loaded, behind its share and its name."""
+
+Faults = dict[str, Exception | None]
+"""Of documents that were given to a program why each wasn't loaded, or that it was."""
 
 
 class Lost(ClientError):
@@ -121,6 +134,17 @@ def divided(sizes: list[int], shares: int) -> list[int]:
     return placed
 
 
+def in_turn(sizes: list[int], shares: list[int]) -> list[int]:
+    """The order in which documents of these sizes go to these shares, so that at any time all shares were given about as many bytes: what is loaded
+    first in one is loaded beside what is loaded first in the others."""
+    given: dict[int, int] = {}
+    before = []
+    for size, share in zip(sizes, shares):
+        before.append(given.get(share, 0))
+        given[share] = before[-1] + size
+    return sorted(range(len(sizes)), key=before.__getitem__)
+
+
 class Shares:
     """An engine over several others. Documents go to the share that was last told of, and to the last one at first."""
 
@@ -154,13 +178,24 @@ class Shares:
         self._homes[name] = self.share
 
     def load_all(self, documents: Iterable[tuple[int, str, bytes]], done: Callable[[str, Exception | None], None]) -> None:
-        """Loads documents, each with its share, into all shares at once; `done` is told of each, with the fault if there was one."""
-        waiting: list[tuple[int, str, Future[None]]] = []
-        for share, name, content in documents:
-            waiting.append((share, name, self._lanes[share].submit(self._load, share, name, content)))
+        """Loads documents, each with its share, into all shares at once, where they come `in_turn`; `done` is told of each, with the fault if there was
+        one."""
+        waiting: deque[tuple[int, Future[Faults]]] = deque()
+        groups: list[list[Document]] = [[] for _ in self._lanes]
+
+        def send(share: int) -> None:
+            waiting.append((share, self._lanes[share].submit(self._load_group, share, groups[share])))
+            groups[share] = []
             # Few documents wait at a time, so that a collection needn't stand in memory.
-            if len(waiting) > 4 * len(self._lanes):
-                self._await(*waiting.pop(0), done)
+            if len(waiting) > MOST_GROUPS * len(self._lanes):
+                self._await(*waiting.popleft(), done)
+
+        for share, name, content in documents:
+            groups[share].append((share, name, content))
+            if len(groups[share]) >= MOST_TOGETHER or sum(len(it[2]) for it in groups[share]) > BYTES_TOGETHER:
+                send(share)
+        for share in range(len(groups)):
+            send(share)
         for it in waiting:
             self._await(*it, done)
 
@@ -169,13 +204,23 @@ class Shares:
         for kept in self._kept[share : share + 1]:
             kept.load(name, content)
 
-    def _await(self, share: int, name: str, result: Future[None], done: Callable[[str, Exception | None], None]) -> None:
-        fault = result.exception()
-        if fault is None:
-            self._homes[name] = share
-        elif not isinstance(fault, Exception):
-            raise fault
-        done(name, fault)
+    def _load_group(self, share: int, group: list[Document]) -> Faults:
+        """Loads documents of one share, in its lane; tells of each the fault, if there was one."""
+        try:
+            faults: Faults = self._ask(share, lambda it: it.load_group(group))
+        except Exception as fault:
+            return dict.fromkeys((name for _, name, _ in group), fault)
+        for kept in self._kept[share : share + 1]:
+            for _, name, content in group:
+                if faults[name] is None:
+                    kept.load(name, content)
+        return faults
+
+    def _await(self, share: int, result: Future[Faults], done: Callable[[str, Exception | None], None]) -> None:
+        for name, fault in result.result().items():
+            if fault is None:
+                self._homes[name] = share
+            done(name, fault)
 
     def drop(self, name: str) -> None:
         """Drops a document from the share that holds it."""
@@ -222,6 +267,10 @@ class Shares:
         kind, names = (words[0] if words else ""), words[1:]
         if kind in ("query", "print", "show"):
             return Found(tuple(self._joined(line.strip()[len(kind) :], lambda it: list(it.command(line).lines), LINES_EACH.get(kind, 1))))
+        if kind == "explain":
+            # No document is looked at.
+            explained: Reply = self._lanes[0].submit(lambda: self._ask(0, lambda it: it.command(line))).result()
+            return explained
         by_name = {"load": self.load, "stop": self.stop, "thesaurus": self.thesaurus}
         if kind in by_name and len(names) == 1 and block is not None:
             by_name[kind](names[0], block)
@@ -341,7 +390,9 @@ class Shares:
 
 def local_shares(count: int, program: Path | None = None) -> Shares:
     """So many programs on this machine."""
-    return Shares([Session(program) for _ in range(count)])
+    from .engines import Loading
+
+    return Shares([Loading(program) for _ in range(count)])
 
 
 class RemoteSession:
@@ -385,14 +436,15 @@ class Actor:
 
     def __init__(self, program: bytes) -> None:
         import os
+        import zlib
 
-        from ftq_client import Session as Here
+        from ftq_ask.engines import Loading
 
         handle, path = tempfile.mkstemp(prefix="ftq-")
         with os.fdopen(handle, "wb") as file:
             file.write(zlib.decompress(program))
         os.chmod(path, 0o700)
-        self._session = Here(path)
+        self._session = Loading(path)
 
     def call(self, name: str, *words: Any) -> tuple[Exception | None, Any]:
         """What a method of the session raises, and what it answers; `close` takes the program away too."""
@@ -408,6 +460,8 @@ class Actor:
 
 def package_bytes() -> bytes:
     """This client's packages as a zip, which Python on another machine imports."""
+    import zipfile
+
     top = Path(ftq_client.__file__).resolve().parents[1]
     out = io.BytesIO()
     with zipfile.ZipFile(out, "w") as archive:
@@ -425,6 +479,8 @@ def workers_of(client: Any) -> list[str]:
 def scheduled_shares(address: str, count: int | None, program: Path) -> Shares:
     """So many programs on the workers of a scheduler, dealt out among them in turn; without a number one for each worker. Where a worker goes
     away, its shares go to those that have the fewest, also to such as came later."""
+    import zlib
+
     from distributed import Client
     from distributed.diagnostics.plugin import UploadFile
 

@@ -5,29 +5,11 @@ from __future__ import annotations
 import re
 import sys
 import unicodedata
+from functools import lru_cache
 from typing import Iterator
 
-
-def _class_of(categories: str, last: int = 0x1FFFF) -> str:
-    """The ranges of a character class: all characters whose category begins with one of the letters."""
-    ranges, start = [], None
-    for code in range(last + 2):
-        inside = code <= last and unicodedata.category(chr(code))[0] in categories
-        if inside and start is None:
-            start = code
-        elif not inside and start is not None:
-            ranges.append(f"\\U{start:08x}-\\U{code - 1:08x}")
-            start = None
-    return "".join(ranges)
-
-
-_MARKS = _class_of("M")
+_LAST = 0x1FFFF
 _ALONE = "\u0e00-\u0eff\u1000-\u109f\u1780-\u17ff\u3040-\u309f\u3400-\u4dbf\u4e00-\u9fff\uf900-\ufaff\U00020000-\U0003ffff"
-_LETTER = f"[^\\W_{_ALONE}][{_MARKS}\u200d]*"
-_PLAIN = f"(?:{_LETTER}|_)+"
-WORD = re.compile(f"[{_ALONE}][{_MARKS}]*|{_PLAIN}(?:(?:['’.:·‧](?=[^\\W\\d_])|[',.;’](?=\\d)){_PLAIN})*")
-"""A word: letters and digits with their marks, joined over an apostrophe or a period inside; an ideograph alone."""
-
 MOST_WORDS = 1_000_000
 """How many words a document may have."""
 
@@ -38,9 +20,20 @@ def key(word: str) -> str:
     return plain.casefold()
 
 
+@lru_cache(maxsize=1)
+def word_pattern() -> re.Pattern[str]:
+    """A word: letters and digits with their marks, joined over an apostrophe or a period inside; an ideograph alone. It is made when it is first
+    needed, since it takes as long as a question."""
+    categories = "".join(it[0] for it in map(unicodedata.category, map(chr, range(_LAST + 1))))
+    marks = "".join(f"\\U{it.start():08x}-\\U{it.end() - 1:08x}" for it in re.finditer("M+", categories))
+    letter = f"[^\\W_{_ALONE}][{marks}\u200d]*"
+    plain = f"(?:{letter}|_)+"
+    return re.compile(f"[{_ALONE}][{marks}]*|{plain}(?:(?:['’.:·‧](?=[^\\W\\d_])|[',.;’](?=\\d)){plain})*")
+
+
 def words_of(text: str) -> Iterator[re.Match[str]]:
     """The words of a text with their places. A low line alone is none."""
-    return (it for it in WORD.finditer(text) if it[0].strip("_"))
+    return (it for it in word_pattern().finditer(text) if it[0].strip("_"))
 
 
 def count_words(texts: Iterator[str], most: int = sys.maxsize) -> int:

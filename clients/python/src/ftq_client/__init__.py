@@ -10,7 +10,8 @@
 A command that the program refuses raises a `Refusal`, a program that ends early `ProgramEnded`.
 """
 
-from .asynchronous import AsyncSession
+from typing import TYPE_CHECKING
+
 from .blocks import block_bytes, command_bytes
 from .faults import (
     BadCommand,
@@ -42,6 +43,9 @@ from .names import LATEST_FORMAT, Names, command_words, name_word
 from .program import find_program
 from .replies import Changes, Counts, Done, Element, Found, Reply, Said, Shown, Step
 from .session import Engine, Position, Session
+
+if TYPE_CHECKING:
+    from .asynchronous import AsyncSession
 
 __version__ = "0.1.0"
 
@@ -91,3 +95,12 @@ __all__ = [
     "name_word",
     "refusal_of",
 ]
+
+
+def __getattr__(name: str) -> object:
+    """`AsyncSession`, when it is first asked for: asyncio takes as long to import as all the rest."""
+    if name == "AsyncSession":
+        from .asynchronous import AsyncSession
+
+        return AsyncSession
+    raise AttributeError(f"module {__name__!r} has no attribute {name!r}")
