@@ -11,7 +11,7 @@ pytest.importorskip("lxml")
 
 from ftq_ask import spellings  # noqa: E402
 from ftq_ask.collection import Collection  # noqa: E402
-from ftq_ask.missing import all_hints  # noqa: E402
+from ftq_ask.missing import TOGETHER, all_hints  # noqa: E402
 from ftq_client import Session  # noqa: E402
 
 TEXT = """<d><p>England’s ships and the King's e-mail. Colour, colours, sailing, registered; to co-operate is naïve</p>
@@ -60,12 +60,12 @@ def test_only_what_is_lacking_is_named(asked: Callable[[str], list[str]]) -> Non
         'the words of "ships storm" are asked for beside each other; "ships storm" all words asks for them anywhere'
     ]
     assert asked('collection()//p[. contains text "ships quartz" ftand "glas"]') == ["no document has the word quartz", "no document has the word glas"]
-    assert asked('collection()//p[. contains text "storm" ftand "ships" ftand ftnot "quartz"]') == []
+    assert asked('collection()//p[. contains text "storm" ftand "ships" ftand ftnot "quartz"]') == [TOGETHER]
     assert asked('collection()//p[. contains text "storm" ftor "quartz"]') == []
     assert asked('doc("d")//p[. contains text "storm"]') == ['doc("d") doesn\'t have the word storm']
     assert asked('collection()//q[. contains text "storm"]') == ["no document has an element q"]
     assert asked('collection()//p[. contains text "regi.* quar.+" using wildcards]') == ["no document has a word that fits the pattern quar.+"]
-    assert asked("collection()/d[not(p)]") == []
+    assert asked("collection()/d[not(p)]") == [TOGETHER]
 
 
 def test_distances_without_the_library(monkeypatch: pytest.MonkeyPatch) -> None:

@@ -17,14 +17,21 @@ MOST_WORDS = 12
 MOST_HALVES = 20
 
 
+TOGETHER = "all words, elements and attributes that have to be there are, but nowhere together as the question asks"
+"""What is said of an answer of nothing of which nothing else is to be said."""
+
+
 def all_hints(path: str, found: int, collection: Collection) -> list[str]:
     """What is likely meant otherwise in a path that was answered with so many elements."""
+    known = True
     try:
         missing = [] if found else list(missing_words(path, collection))
     except TimedOut:
-        missing = []
-    told = hints(path, found, collection.vocabulary, collection.has_stems, bool(missing))
-    return [*told, *missing, *_of_blocks(path, collection), *_of_apostrophes(path, collection)]
+        missing, known = [], False
+    told = [*hints(path, found, collection.vocabulary, collection.has_stems, bool(missing)), *missing, *_of_blocks(path, collection)]
+    if not (found or told) and known and collection.sources:
+        told = [TOGETHER]
+    return [*told, *_of_apostrophes(path, collection)]
 
 
 _UNITS = {"sentence", "sentences", "paragraph", "paragraphs"}
