@@ -315,6 +315,23 @@ def test_a_large_folder_is_divided_among_programs_by_itself(ask: Ask, tmp_path: 
     assert one.stdout.count("storm ") == 11 and one.stderr.index("04.xml") < one.stderr.index("09.xml")
 
 
+@pytest.mark.parametrize("workers", ["1", "3"])
+def test_an_interrupt_ends_it_without_further_words(program: Path, tmp_path: Path, workers: str) -> None:
+    for number in range(60):
+        (tmp_path / f"{number}.xml").write_text(f"<r>{'<p>a storm</p>' * 20_000}</r>")
+    call = [str(TOP / "tools" / "ask"), "--program", str(program), "--no-cache", "--workers", workers, str(tmp_path), "--query", STORM]
+    for seconds in (0.0, 1.0):
+        ran = subprocess.Popen(
+            call, stdout=subprocess.PIPE, stderr=subprocess.PIPE, text=True, preexec_fn=lambda: signal.signal(signal.SIGINT, signal.SIG_DFL) and None
+        )
+        begun = Path(f"/proc/{ran.pid}/task/{ran.pid}/children")
+        while not begun.read_text():
+            time.sleep(0.01)
+        time.sleep(seconds)
+        ran.send_signal(signal.SIGINT)
+        assert (ran.communicate(timeout=60)[1], ran.returncode) == ("", 130)
+
+
 def test_several_programs_answer_as_one(ask: Ask, tmp_path: Path) -> None:
     for number in range(23):
         (tmp_path / f"d{number:02}.xml").write_text(f"<doc><p>number {number} {'even' if number % 2 == 0 else 'odd'}</p></doc>")

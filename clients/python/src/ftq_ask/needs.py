@@ -35,6 +35,10 @@ EXTRAS = {"ask": USUAL, "serve": SERVING, "follow": FOLLOWING, "cluster": CLUSTE
 """What this package calls those needs, where it is installed by pip."""
 
 
+INTERRUPTED = 130
+"""The status of a command that Ctrl-C has ended, as shells have it."""
+
+
 def line_for(module: str) -> str:
     """The line that installs what is missing, with all that is needed for the same. An environment of its own doesn't look at Debian's
     packages, and gets what the package itself names."""
@@ -44,15 +48,21 @@ def line_for(module: str) -> str:
 
 def ask() -> int:
     """The command ask: answered by what is running already, or by its own modules."""
-    from .beside import answered
+    try:
+        from .beside import answered
 
-    status = answered(sys.argv[1:])
-    return run("ftq_ask.commands") if status is None else status
+        status = answered(sys.argv[1:])
+        return run("ftq_ask.commands") if status is None else status
+    except KeyboardInterrupt:
+        return INTERRUPTED
 
 
 def pack() -> int:
     """The command ftq-pack of the installed package."""
-    return run("ftq_ask.packing")
+    try:
+        return run("ftq_ask.packing")
+    except KeyboardInterrupt:
+        return INTERRUPTED
 
 
 def run(module: str) -> int:

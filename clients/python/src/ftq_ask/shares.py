@@ -300,10 +300,11 @@ class Shares:
 
     def close(self) -> int:
         """Ends all programs; the greatest of their statuses."""
-        closing = [lane.submit(self._close, share) for share, lane in enumerate(self._lanes)]
-        statuses = [it.result() for it in closing]
         for lane in self._lanes:
-            lane.shutdown()
+            # What nobody has waited for, since an interrupt came, isn't begun any more.
+            lane.shutdown(cancel_futures=True)
+        with ThreadPoolExecutor() as closing:
+            statuses = list(closing.map(self._close, range(self.count)))
         for kept in self._kept:
             kept.close()
         self._at_end()
