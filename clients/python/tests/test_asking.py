@@ -291,6 +291,12 @@ def test_a_list_of_abbreviations_that_cant_be_taken_is_named(ask: Ask, folder: P
     assert ran.returncode == 2 and "ask: there are lists of abbreviations for de, en, fr, and klingon is none of these and no file" in ran.stderr
 
 
+def test_words_end_at_tags_and_marks_of_punctuation_stay_beside_them(ask: Ask, tmp_path: Path) -> None:
+    (tmp_path / "a.xml").write_text("<r><p>See <b>this</b>, (<i>not</i> that): <b>x</b>.5 <u>a</u>’s <b>end</b>.<i/></p></r>")
+    text = ask(tmp_path, "--query", 'collection()//p[. contains text "not that"]').stdout.splitlines()[1].strip()
+    assert text == "See this, (not that): x .5 a ’s end."
+
+
 def test_an_empty_question_says_so(ask: Ask, folder: Path) -> None:
     ran = ask(folder / "voyages.xml", "--query", " ", "--query", "collection()/book", "--count")
     assert ran.returncode == 2 and ran.stdout == "1 collection()/book\n"

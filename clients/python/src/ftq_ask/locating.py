@@ -32,6 +32,10 @@ class Source:
     edited: bool = False
 
 
+_CLOSING = re.compile(r"[.,;:!?…)\]}”»]+(?=\s|\Z)")
+_OPENING = ("(", "[", "{", "“", "«")
+
+
 @dataclass(frozen=True)
 class Located:
     """An element that was found, with its file, its line there from 1, the texts in it and its attributes; what isn't known is None."""
@@ -52,8 +56,13 @@ class Located:
 
     @property
     def shown(self) -> str:
-        """The element's text with a blank at each boundary of elements, where a word ends too."""
-        return " ".join(self.texts)
+        """The element's text with a blank at each boundary of elements, where a word ends too; none beside a mark that ends there anyway."""
+        parts: list[str] = []
+        for text in self.texts:
+            if parts and not _CLOSING.match(text) and not parts[-1].endswith(_OPENING):
+                parts.append(" ")
+            parts.append(text)
+        return "".join(parts)
 
     def first_mark(self, words: Words) -> tuple[int | None, str]:
         """The line of the file on which the first marked word stands, and the word; that of the element and nothing where none is marked, and that of
