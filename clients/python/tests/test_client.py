@@ -400,7 +400,7 @@ def test_the_program_gets_large_pages_unless_the_caller_says_otherwise(
     assert [it for it in started_with if it.startswith(b"GLIBC_TUNABLES=")] == [b"GLIBC_TUNABLES=" + given.encode()]
 
 
-def test_the_program_takes_memory_as_mimalloc_gives_it_where_that_is_installed(program: Path, monkeypatch: pytest.MonkeyPatch, tmp_path: Path) -> None:
+def test_the_program_has_memory_of_mimalloc_where_that_is_installed(program: Path, monkeypatch: pytest.MonkeyPatch, tmp_path: Path) -> None:
     def preloaded() -> list[bytes]:
         with Session(program) as session:
             session.load("d", b"<a/>")

@@ -46,8 +46,8 @@ EDITS = ("insert", "replace", "delete")
 
 @dataclass(frozen=True)
 class Planned:
-    """A file that is to be loaded: its path as it is shown, its path, its document's name, its share, whether it was named itself, and how many bytes it
-    has, which is told where there are several shares."""
+    """A file that is to be loaded: its path as it is shown, its path, its document's name, its share, whether it was named itself, and how many
+    bytes it has, which is told where there are several shares."""
 
     shown: Path
     path: Path

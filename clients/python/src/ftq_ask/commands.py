@@ -91,8 +91,8 @@ def _engine(options: argparse.Namespace) -> Any:
 
 
 def _usual_workers(options: argparse.Namespace) -> int:
-    """Among how many programs the documents are divided where the call doesn't say: among as many as there are processors, where there is enough to do
-    for each. That is for calls with --query, which ask nothing that isn't divided."""
+    """Among how many programs the documents are divided where the call doesn't say: among as many as there are processors, where there is enough to
+    do for each. That is for calls with --query, which ask nothing that isn't divided."""
     most = min(MOST_PROCESSES, len(os.sched_getaffinity(0)))
     return max(1, bytes_at(options.paths, most * BYTES_EACH) // BYTES_EACH)
 

@@ -178,8 +178,8 @@ class Shares:
         self._homes[name] = self.share
 
     def load_all(self, documents: Iterable[tuple[int, str, bytes]], done: Callable[[str, Exception | None], None]) -> None:
-        """Loads documents, each with its share, into all shares at once, where they come `in_turn`; `done` is told of each, with the fault if there was
-        one."""
+        """Loads documents, each with its share, into all shares at once, where they come `in_turn`; `done` is told of each, with the fault if there
+        was one."""
         waiting: deque[tuple[int, Future[Faults]]] = deque()
         groups: list[list[Document]] = [[] for _ in self._lanes]
 

@@ -54,7 +54,8 @@ def _texts(collection: Collection, name: str) -> Iterator[str]:
 
 
 def _asked(text: str) -> list[str]:
-    """Selections that a text satisfies: a word, two beside each other, two in a window, and the beginning of one; none where its words don't give that."""
+    """Selections that a text satisfies: a word, two beside each other, two in a window, and the beginning of one; none where its words don't give
+    that."""
     found = list(words_of(text))
     words = [it[0] for it in found]
     long = [place for place, word in enumerate(words) if len(word) >= LONG and word.isalpha() and words.index(word) == place]
