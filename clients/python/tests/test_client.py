@@ -44,7 +44,6 @@ from ftq_client import (
     find_program,
     refusal_of,
 )
-from ftq_client.program import ALLOCATORS
 
 
 def test_a_query_gives_elements_with_document_steps_and_line(session: Session) -> None:
@@ -398,24 +397,6 @@ def test_the_program_gets_large_pages_unless_the_caller_says_otherwise(
         session.load("d", b"<a/>")
         started_with = Path(f"/proc/{session.pid}/environ").read_bytes().split(b"\0")
     assert [it for it in started_with if it.startswith(b"GLIBC_TUNABLES=")] == [b"GLIBC_TUNABLES=" + given.encode()]
-
-
-def test_the_program_has_memory_of_mimalloc_where_that_is_installed(program: Path, monkeypatch: pytest.MonkeyPatch, tmp_path: Path) -> None:
-    def preloaded() -> list[bytes]:
-        with Session(program) as session:
-            session.load("d", b"<a/>")
-            started_with = Path(f"/proc/{session.pid}/environ").read_bytes().split(b"\0")
-            assert [it.line for it in session.query("collection()/a")] == ['doc("d")/a[1]']
-        return [it.removeprefix(b"LD_PRELOAD=") for it in started_with if it.startswith(b"LD_PRELOAD=")]
-
-    monkeypatch.delenv("LD_PRELOAD", raising=False)
-    there = [it for it in ALLOCATORS if it.is_file()]
-    assert preloaded() == [os.fsencode(it) for it in there[:1]]
-    monkeypatch.setattr("ftq_client.program.ALLOCATORS", (tmp_path / "absent.so",))
-    assert preloaded() == []
-    monkeypatch.setattr("ftq_client.program.ALLOCATORS", there)
-    monkeypatch.setenv("LD_PRELOAD", "")
-    assert preloaded() == [b""]
 
 
 def test_the_bytes_of_commands() -> None:

@@ -17,10 +17,6 @@ TUNABLES = {"GLIBC_TUNABLES": "glibc.malloc.hugetlb=1"}
 """What the program is started with where the caller's environment says nothing of it: memory in large pages, where the system gives them,
 saves a third of the time that it takes to ask thousands of documents."""
 
-ALLOCATORS = tuple(Path(folder) / "libmimalloc.so.2" for folder in ("/usr/lib/x86_64-linux-gnu", "/usr/lib64", "/usr/lib"))
-"""Where systems have mimalloc, which in the place of the C library's allocator saves a fourth of the time that it takes to load many elements. The
-program is started with it where it is installed and the caller's environment preloads nothing."""
-
 VARIABLE = "FTQ"
 """The environment's variable that names the program."""
 
@@ -43,11 +39,6 @@ def find_program() -> Path:
     raise ProgramMissing(f"the program ftq isn't found{building}: name it by an argument or by the variable {VARIABLE}, or put it on the path")
 
 
-def _preloaded() -> dict[str, str]:
-    """The variable by which the program is started with another allocator, where there is one."""
-    return {"LD_PRELOAD": os.fspath(it) for it in ALLOCATORS[::-1] if it.is_file()}
-
-
 class Process:
     """One run of the program, and one session with it."""
 
@@ -60,7 +51,7 @@ class Process:
                 stdin=subprocess.PIPE,
                 stdout=subprocess.PIPE,
                 stderr=subprocess.PIPE,
-                env={**TUNABLES, **_preloaded(), **os.environ},
+                env={**TUNABLES, **os.environ},
                 start_new_session=True,
             )
         except OSError as error:
