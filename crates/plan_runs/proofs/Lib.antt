@@ -5,13 +5,14 @@ mod RunViews
 mod GroupLaw
 mod AimLemmas
 mod TermCosts
+mod OpenedTests
 mod OpenedLemmas
 mod OpenedViews
 mod SkipLemmas
 mod MissingLemmas
 mod EdgeLemmas
 mod SkipLaw
-mod CountSkipLaw
+mod LackLaw
 mod NeedViews
 mod OpenedWays
 mod OpenedPartLemmas
@@ -31,7 +32,7 @@ mod OpenedCounts
 mod KnownTexts
 mod RunLaw
 mod RuledOutLaw
-mod RunSkipLaw
+mod SkipViews
 mod TermReadings
 mod TellingLemmas
 mod ChoosingLemmas

@@ -1,6 +1,6 @@
 -- Opened words that are counted say of the spans of documents what the compiled ones say of their tokens.
 use Rattle.std.proofs.Common.{◌≡◌, refl, sym, ap, subst, ◌∙◌, ℕ, suc, ◌+◌, ◌-◌, ◌≤◌, ◌==◌, Bool, true, false, true≢false, cond, ◌&&◌, List, [], ◌∷◌, ◌++◌, map, filter, flat_map, fold, length, arith}
-use Rattle.std.specs.Prelude.{Option, nat_le, nat_lt}
+use Rattle.std.specs.Prelude.{nat_le, nat_lt}
 use Rattle.std.specs.List.{All, list_all, list_any, sum_by}
 use Rattle.std.proofs.lemmas.Bool.{and_from, and_parts, eq-eqb}
 use Rattle.std.proofs.lemmas.List.{map-append}
@@ -13,9 +13,8 @@ use Rattle.ft_base.specs.declared.unit.TextUnit.{TextUnit}
 use Rattle.ft_base.specs.declared.unit.TextUnit.TheVariants as Unit
 use Rattle.ft_base.proofs.Truth.{same_tests}
 use Rattle.all_matches.specs.Counting.{by_length, put_variant, with_variant}
-use Rattle.all_matches.specs.Positions.{end_in, start_in}
 use Rattle.all_matches.proofs.ListTests.{list_any-map}
-use Rattle.count_merges.specs.Groups.{group_spots, told_hit}
+use Rattle.count_merges.specs.Groups.{told_hit}
 use Rattle.count_merges.proofs.PhraseLemmas.{groups_much, much, phrases_much}
 use Rattle.counted_shapes.specs.Accepted.{fit_in}
 use Rattle.counted_shapes.specs.Fields.{in_unit, in_window}
@@ -25,9 +24,8 @@ use Rattle.counted_shapes.specs.declared.field.Field.{Field}
 use Rattle.counted_shapes.specs.declared.field.Field.TheVariants.{Window, Sentence, Paragraph}
 use Rattle.counted_shapes.proofs.CountedLemmas.{some-unit, some-window}
 use Rattle.counted_shapes.proofs.ToldLemmas.{told-unit, told-window}
-use Rattle.index_cursors.specs.SpanHits.{started}
 use Rattle.index_meaning.specs.Documents.{Numbered, breaks_of, document_at}
-use Rattle.index_phrases.specs.Phrases.{last_place, numbered_hit, own_number, wanted_at}
+use Rattle.index_phrases.specs.Phrases.{last_place, numbered_hit, wanted_at}
 use Rattle.index_phrases.specs.declared.word_terms.WordTerms.{WordTerms}
 use Rattle.index_phrases.specs.steps.Aiming.{AreThere}
 use Rattle.place_merges.specs.Places.{Wanted}
@@ -36,7 +34,7 @@ use Rattle.place_merges.specs.declared.spot.Spot.{Spot}
 use Rattle.spot_merges.specs.Edges.{spots_of}
 use Rattle.spot_merges.proofs.SpotRanges.{kept_lie, lies_in, lying}
 use Rattle.word_lists.specs.Stems.{Stem}
-use Rattle.plan_compiler.specs.CountedPlans.{counted_at, counted_truth, hits_of_phrases, items_cost, phrases_cost}
+use Rattle.plan_compiler.specs.CountedPlans.{counted_at, hits_of_phrases, items_cost, phrases_cost}
 use Rattle.plan_compiler.specs.NodeCosts.{node_cost}
 use Rattle.plan_compiler.specs.NodeMeaning.{truth}
 use Rattle.plan_compiler.specs.Operators.{LookedText, hits_by_tests, looked_text}
@@ -53,11 +51,12 @@ use Rattle.plan_compiler.proofs.SumLemmas.{sum_over_le}
 use Rattle.plan_kinds.specs.steps.RisingUnits.{started_rises}
 use Rattle.plan_compiler.specs.CheapPlans.{is_cheap_node}
 use Rattle.plan_runs.specs.steps.AskedSpans.{AskedSpan, IsAsked, tokens_in}
-use Rattle.plan_runs.specs.steps.Counts.{AreCounts, CountsShape, TermCounts, TermGroups, counts_say, field_unit, item_cost, opened_count, opened_counts, opened_groups, terms_counted, unit_number}
+use Rattle.plan_runs.specs.steps.Counts.{TermCounts, TermGroups, field_unit, item_cost, opened_count, opened_counts, opened_groups, terms_counted, unit_number}
 use Rattle.plan_runs.specs.steps.OpenedItems.{opened_item, opened_variant}
 use Rattle.plan_runs.specs.steps.CheapShapes.{is_cheap_shape}
 use Rattle.plan_runs.specs.steps.OpenedWords.{IsOpened}
 use Rattle.plan_runs.specs.steps.RunCosts.{run_cost}
+use Rattle.plan_runs.specs.steps.RunSkips.{skip}
 use Rattle.plan_runs.specs.steps.RunShapes.{Shape, by_counts, counts_shape, shape}
 use Rattle.plan_runs.specs.steps.RunTruth.{IsSound, run_truth}
 use Rattle.plan_runs.specs.declared.run_counts.RunCounts.{RunCounts}
@@ -65,6 +64,7 @@ use Rattle.plan_runs.specs.declared.run_node.RunNode as R
 use Rattle.plan_runs.proofs.OpenedLemmas.{group_cheap, variants_there}
 use Rattle.plan_runs.proofs.OpenedWays.{phrase_law}
 use Rattle.plan_runs.proofs.RunViews.{shape-Counted}
+use Rattle.plan_runs.proofs.SkipLaw.{none_counts}
 
 -- ---- hits that are told so, and more of them behind
 
@@ -269,7 +269,7 @@ module _ (looks : Looks) (stems : List Stem) (version : List Numbered) where
 
   pub counts_opened : (run : RunCounts) (plan : CountedPlan) (node : Node) → node ≡ N.Counted plan → counts_shape run ≡ opened_counts looks stems version plan
       → IsOpened looks stems version (shape (R.Counted run)) node
-  unfolding run_truth IsSound run_cost is_cheap_shape
+  unfolding run_truth skip IsSound run_cost is_cheap_shape
   counts_opened run plan node is opened =
       let own : shape (R.Counted run) ≡ by_counts (opened_counts looks stems version plan) = shape-Counted run ∙ ap by_counts opened in
       subst (λ (s : Shape). IsOpened looks stems version s node) (sym own) (record {
@@ -288,6 +288,9 @@ module _ (looks : Looks) (stems : List Stem) (version : List Numbered) where
             (list_any-map (λ (item : Counted). nat_lt 0 item.least) (by_phrases asked there plan.field) plan.items ∙ plan.asks) plan.field
             ∙ sym (fit_told (counted_at whole) (by_phrases asked there plan.field) (before (field_unit plan.field) (breaks_of (document_at asked.doc version)) asked.span 0) plan.field (item_told asked there plan.field) plan.items)
             ∙ sym (ap (λ (n : Node). truth n whole) is ∙ truth-Counted plan whole);
+        none = λ part asked tokens left h.
+            ap (λ (n : Node). truth n (looked_text looks stems tokens)) is
+            ∙ none_counts looks stems version part asked tokens left plan h;
         cost = λ word_cost test_cost fair most.
             let paid = items_paid word_cost test_cost most plan.items in
             let whole = ap (node_cost test_cost) is ∙ cost-Counted test_cost plan in

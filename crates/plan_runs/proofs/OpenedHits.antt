@@ -45,13 +45,14 @@ use Rattle.plan_runs.specs.steps.OpenedOperators.{opened_aims}
 use Rattle.plan_runs.specs.steps.OpenedWords.{IsOpened}
 use Rattle.plan_runs.specs.steps.Passes.{HitsShape, hits_say, opened_phrases, phrase_variants, variant_aims}
 use Rattle.plan_runs.specs.steps.RunCosts.{run_cost}
+use Rattle.plan_runs.specs.steps.RunSkips.{skip}
 use Rattle.plan_runs.specs.steps.RunShapes.{Shape, by_hits, shape}
 use Rattle.plan_runs.specs.steps.RunTruth.{IsSound, run_truth}
 use Rattle.plan_kinds.specs.declared.pass_kind.PassKind.{PassKind}
 use Rattle.plan_runs.specs.declared.run_hits.RunHits.{RunHits}
 use Rattle.plan_runs.specs.declared.run_node.RunNode as R
 use Rattle.plan_runs.proofs.HitUnion.{choice_alike, union_law}
-use Rattle.plan_runs.proofs.SkipLaw.{nothing_there}
+use Rattle.plan_runs.proofs.SkipLaw.{none_ways, skip_lacks}
 use Rattle.plan_runs.proofs.OpenedWays.{aims_law, own_text}
 use Rattle.plan_runs.proofs.RisingHits.{all_begin_alike, all_told, own_units, phrase_told, told_ends, units_rise, variant_rises}
 use Rattle.plan_runs.proofs.RunViews.{shape-Hits}
@@ -152,7 +153,7 @@ module _ (looks : Looks) (stems : List Stem) (version : List Numbered) where
   pub hits_opened : (run : Box RunHits Global) (plan : WaysPlan) (kind : PassKind) (operand : OperatorPlan) → merge_of plan.operator ≡ None → pass_of plan.operator ≡ Some (kind, operand)
       → run.value.kind ≡ kind → all_aims state_of run.value.phrases.items ≡ opened_phrases looks stems version operand
       → skip_of run.value.needs ≡ opened_skip looks stems version plan.operator → IsOpened looks stems version (shape (R.Hits run)) (N.Ways plan)
-  unfolding run_truth IsSound run_cost opened_aims
+  unfolding run_truth skip IsSound run_cost opened_aims
   hits_opened run plan kind operand none is kinds phrases skipping =
       let pass = filtered_kind pass_kind plan.operator kind operand is in
       let made : HitsShape = record { kind = kind; phrases = opened_phrases looks stems version operand; skips = opened_skip looks stems version plan.operator } in
@@ -166,13 +167,13 @@ module _ (looks : Looks) (stems : List Stem) (version : List Numbered) where
         sound = record {
           may = λ doc span there. may_all doc span there (joined_phrases operand);
           rising = λ doc span. rise_all doc span (joined_phrases operand);
-          skipped = λ doc part span within h. says (record { doc = doc; span = span }) ∙ ap satisfied (nothing_there looks stems version doc part span within (own_span span) plan.operator h);
         };
         says = λ asked there.
             let text = looked_text looks stems (tokens_in version asked) in
             says asked
             ∙ (λ i. satisfied (matches_of (own_text looks stems version asked there i) (aims_law looks stems version asked there plan.operator i)))
             ∙ sym (truth-Ways plan text);
+        none = λ part asked tokens left h. none_ways looks stems version part asked tokens left plan (skip_lacks looks stems version asked.doc part asked.span.to plan.operator h);
         cost = λ word_cost test_cost fair most. omega arith;
         cheap = λ counts h. absurd (true≢false (sym h ∙ cheap-Ways counts plan ∙ unmerged plan.operator none));
       })

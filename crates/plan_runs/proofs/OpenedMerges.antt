@@ -36,9 +36,12 @@ use Rattle.plan_runs.specs.declared.run_node.RunNode as R
 use Rattle.plan_runs.proofs.MergeCosts.{joined_cheap, phrases_cheap}
 use Rattle.plan_runs.proofs.MergeLaw.{merge_law}
 use Rattle.plan_compiler.proofs.NodeViews.{cost-Ways, truth-Ways}
-use Rattle.plan_runs.proofs.OpenedLemmas.{every}
+use Rattle.plan_runs.proofs.OpenedTests.{every}
 use Rattle.plan_runs.proofs.OpenedWays.{own_text}
+use Rattle.plan_runs.proofs.LackLaw.{operator_lacks}
 use Rattle.plan_runs.proofs.RunViews.{shape-Merge}
+use Rattle.plan_runs.proofs.SkipLaw.{absent_there, merge_lacks, none_ways}
+use Rattle.plan_runs.specs.steps.RunSkips.{skip}
 
 all_flat : {X : Type 0} (P : VersionTerm → Type 0) (f : X → List VersionTerm) → ((x : X) → All P (f x)) → (xs : List X) → All P (flat_map f xs)
 all_flat P f each [] = All-nil P
@@ -58,7 +61,7 @@ module _ (looks : Looks) (stems : List Stem) (version : List Numbered) where
 
   pub merge_opened : (run : RunMerge) (plan : WaysPlan) (kind : MergeKind) (operand : OperatorPlan) → merge_of plan.operator ≡ Some (kind, operand)
       → merge_shape run ≡ opened_merge looks stems version kind operand → IsOpened looks stems version (shape (R.Merge run)) (N.Ways plan)
-  unfolding run_truth IsSound run_cost operator_at operator_cost is_cheap_shape
+  unfolding run_truth skip IsSound run_cost operator_at operator_cost operator_lacks is_cheap_shape
   merge_opened run plan kind operand is opened =
       let merge = filtered_kind merge_kind plan.operator kind operand is in
       let made = words_law merge.filter merge.joined kind merge.kinds in
@@ -72,6 +75,11 @@ module _ (looks : Looks) (stems : List Stem) (version : List Numbered) where
             sym (merge_law looks stems version asked there operand merge.joined merge.filter kind (own_span asked.span) merge.phrases merge.kinds)
             ∙ (λ i. satisfied (matches_of (own_text looks stems version asked there i) (sym (filtered_law (operator_at text) through_filter (λ p own filter. refl) plan.operator _ merge.is) i)))
             ∙ sym (truth-Ways plan text);
+        none = λ part asked tokens left h.
+            let absent = absent_there looks stems version part asked tokens left in
+            none_ways looks stems version part asked tokens left plan
+            (filtered_law (operator_lacks absent) (λ lacks filter. lacks) (λ p own filter. refl) plan.operator _ merge.is
+            ∙ merge_lacks looks stems version asked.doc part asked.span.to operand words h);
         cost = λ word_cost test_cost fair most.
             let cheap = phrases_cheap looks stems version word_cost test_cost fair most (joined_phrases operand) words in
             let sum = joined_cheap test_cost operand in

@@ -36,6 +36,7 @@ use Rattle.plan_runs.specs.steps.OpenedOperators.{opened_aims}
 use Rattle.plan_runs.specs.steps.OpenedWords.{IsOpened}
 use Rattle.plan_runs.specs.steps.Passes.{phrase_variants, variant_aims}
 use Rattle.plan_runs.specs.steps.RunCosts.{run_cost}
+use Rattle.plan_runs.specs.steps.RunSkips.{skip}
 use Rattle.plan_runs.specs.steps.RunShapes.{Shape, by_near, shape}
 use Rattle.plan_runs.specs.steps.RunTruth.{IsSound, aims_say, run_truth}
 use Rattle.plan_runs.specs.steps.Skips.{opened_skip, skip_of}
@@ -46,7 +47,7 @@ use Rattle.plan_runs.proofs.OpenedHits.{may_each, rise_each}
 use Rattle.plan_runs.proofs.OpenedWays.{aims_law, own_text}
 use Rattle.plan_runs.proofs.RisingHits.{own_units, phrase_told, units_rise}
 use Rattle.plan_runs.proofs.RunViews.{shape-Near}
-use Rattle.plan_runs.proofs.SkipLaw.{nothing_there}
+use Rattle.plan_runs.proofs.SkipLaw.{none_ways, skip_lacks}
 
 module _ (looks : Looks) (stems : List Stem) (version : List Numbered) where
   abbrev near : OperatorPlan → Aims
@@ -134,7 +135,7 @@ module _ (looks : Looks) (stems : List Stem) (version : List Numbered) where
   pub near_run_opened : (run : Box RunNear Global) (plan : WaysPlan) → merge_of plan.operator ≡ None → is_near plan.operator ≡ true
       → near_aims state_of run.value.tree ≡ near plan.operator → near_lists state_of run.value.tree ≡ variant_lists looks stems version plan.operator
       → skip_of run.value.needs ≡ opened_skip looks stems version plan.operator → IsOpened looks stems version (shape (R.Near run)) (N.Ways plan)
-  unfolding run_truth IsSound run_cost
+  unfolding run_truth skip IsSound run_cost
   near_run_opened run plan none is aims lists skipping =
       let made : NearShape = record { aims = near plan.operator; lists = variant_lists looks stems version plan.operator; skips = opened_skip looks stems version plan.operator } in
       let own : shape (R.Near run) ≡ by_near made = shape-Near run ∙ (λ i. by_near (record { aims = aims i; lists = lists i; skips = skipping i })) in
@@ -151,13 +152,13 @@ module _ (looks : Looks) (stems : List Stem) (version : List Numbered) where
             rise = units_rise (breaks_of (document_at doc version)) span;
             told = near_told doc span plan.operator;
           };
-          skipped = λ doc part span within h. says (record { doc = doc; span = span }) ∙ ap satisfied (nothing_there looks stems version doc part span within (own_span span) plan.operator h);
         };
         says = λ asked there.
             let text = looked_text looks stems (tokens_in version asked) in
             says asked
             ∙ (λ i. satisfied (matches_of (own_text looks stems version asked there i) (aims_law looks stems version asked there plan.operator i)))
             ∙ sym (truth-Ways plan text);
+        none = λ part asked tokens left h. none_ways looks stems version part asked tokens left plan (skip_lacks looks stems version asked.doc part asked.span.to plan.operator h);
         cost = λ word_cost test_cost fair most. omega arith;
         cheap = λ counts h. absurd (true≢false (sym h ∙ cheap-Ways counts plan ∙ unmerged plan.operator none));
       })

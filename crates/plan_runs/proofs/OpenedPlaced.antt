@@ -1,12 +1,13 @@
 -- Opened phrases that have to stand somewhere say of the spans of documents what the compiled selections say of their tokens.
-use Rattle.std.proofs.Common.{◌≡◌, refl, sym, ap, subst, ◌∙◌, ℕ, ◌==◌, true, true≢false, ◌&&◌, not, List, [], ◌∷◌, map, length, Some, None, arith}
+use Rattle.std.proofs.Common.{◌≡◌, refl, sym, ap, subst, ◌∙◌, ℕ, ◌==◌, true, false, true≢false, ◌&&◌, not, List, [], ◌∷◌, map, length, Some, None, arith}
 use Rattle.std.specs.List.{list_all}
-use Rattle.std.proofs.lemmas.Bool.{and_parts}
+use Rattle.std.proofs.lemmas.Bool.{and_parts, or_left}
 use Rattle.std.proofs.lemmas.List.{length-map}
 use Rattle.std.proofs.lemmas.Option.{none-some}
 use Rattle.ft_base.specs.declared.filter.Filter.{Filter}
 use Rattle.ft_base.specs.declared.filter.Filter.TheVariants as F
 use Rattle.ft_base.specs.declared.hit.Hit.{Hit}
+use Rattle.ft_base.specs.declared.span.Span.{Span}
 use Rattle.ft_base.specs.declared.unit.TextUnit.TheVariants as Unit
 use Rattle.all_matches.specs.Boolean.{satisfied}
 use Rattle.all_matches.specs.Filters.{ft_filtered}
@@ -39,6 +40,8 @@ use Rattle.plan_kinds.proofs.OutsideLaw.{outside_law}
 use Rattle.plan_kinds.proofs.PlacedLaw.{both_found, filter_is, phrase_is}
 use Rattle.plan_runs.specs.steps.RunCosts.{run_cost}
 use Rattle.plan_runs.specs.steps.RunShapes.{PlacedShape, Shape, at_edge, by_spots, outside, placed_shape, shape}
+use Rattle.plan_runs.specs.steps.RunSkips.{placed_skip, skip}
+use Rattle.plan_runs.specs.steps.Skips.{ends_before}
 use Rattle.plan_runs.specs.steps.RunTruth.{ArePlaced, IsSound, placed_say, run_truth}
 use Rattle.plan_compiler.specs.declared.item_matching.ItemTest.{ItemTest}
 use Rattle.plan_compiler.specs.declared.looks.Looks.{Looks}
@@ -49,14 +52,17 @@ use Rattle.plan_compiler.specs.declared.operator_plan.WaysPlan.{WaysPlan}
 use Rattle.plan_runs.specs.declared.run_node.RunNode as R
 use Rattle.plan_runs.specs.declared.run_placed.RunPlaced.{RunPlaced}
 use Rattle.plan_compiler.proofs.NodeViews.{cheap-Ways, truth-Ways}
+use Rattle.plan_runs.proofs.LackLaw.{found_lacks, operator_lacks}
 use Rattle.plan_runs.proofs.OpenedLemmas.{group_fits, variants_there}
 use Rattle.plan_runs.proofs.OpenedWays.{aims_law, own_text}
 use Rattle.plan_runs.proofs.RunViews.{shape-Placed}
+use Rattle.plan_runs.proofs.SkipLaw.{absent, none_ways, variants_found}
 
 module _ (looks : Looks) (stems : List Stem) (version : List Numbered) where
   -- the phrases say what the compiled selection says
   pub record IsPlaced (plan : OperatorPlan) (phrases : PlacedShape) : Type 0 where
     pub there : ArePlaced version phrases
+    pub lacks : (doc : ℕ) (part : Span) (to : ℕ) → ends_before to (placed_skip doc part phrases) ≡ true → operator_lacks (absent looks stems version doc part to) plan ≡ true
     pub says : (asked : AskedSpan)
         → satisfied (matches_of (own_span asked.span) ((opened_aims looks stems version plan).operators asked.doc asked.span)) ≡ placed_say version phrases asked
 
@@ -74,9 +80,10 @@ module _ (looks : Looks) (stems : List Stem) (version : List Numbered) where
 
   filtered_placed : (p : _) (kind : Filter) (edge : Edge) (found : PhraseTests) → kind ≡ edge_filter edge
       → IsPlaced (Filtered' p (Phrase found) kind) (at_edge edge (map (opened_variant looks stems version) found.variants))
-  unfolding opened_aims
+  unfolding opened_aims operator_lacks
   filtered_placed p kind edge found is = record {
     there = variants_there looks stems version found.variants;
+    lacks = λ doc part to h. variants_found looks stems version doc part to found h;
     says = λ asked.
         ap (λ (own : Filter). satisfied (matches_of (own_span asked.span) (through_filter ((phrase_opened looks stems version found).operators asked.doc asked.span) own))) is
         ∙ at_edge_says edge found asked;
@@ -104,9 +111,10 @@ module _ (looks : Looks) (stems : List Stem) (version : List Numbered) where
   both_opened kind left right = outside kind (opened_group looks stems version left.variants) (opened_group looks stems version right.variants)
 
   uncovered_placed : (p : _) (left right : PhraseTests) → IsPlaced (MildNot' p (Phrase left) (Phrase right)) (both_opened Cover left right)
-  unfolding opened_aims
+  unfolding opened_aims operator_lacks
   uncovered_placed p left right = record {
     there = (group_fits looks stems version left.variants, group_fits looks stems version right.variants);
+    lacks = λ doc part to h. variants_found looks stems version doc part to left h;
     says = λ asked.
         told_apart asked.span (hit_on asked left) (hit_on asked right) (λ at. record { from = refl; to = refl; whole = refl }) (λ at. record { from = refl; to = refl; whole = refl })
         (wants asked left) (wants asked right);
@@ -138,17 +146,19 @@ module _ (looks : Looks) (stems : List Stem) (version : List Numbered) where
 
   word_placed : (p : _) (q : _) (r : _) (size : ℕ) (word other : PhraseTests) → is_word word ≡ true → is_word other ≡ true
       → IsPlaced (Filtered' p (Both' q (Phrase word) (Negated' r (Phrase other))) (F.Window size Unit.Words)) (both_opened (Window size) word other)
-  unfolding opened_aims
+  unfolding opened_aims operator_lacks
   word_placed p q r size word other one two = record {
     there = (group_fits looks stems version word.variants, group_fits looks stems version other.variants);
+    lacks = λ doc part to h. or_left (found_lacks (absent looks stems version doc part to) word) false (variants_found looks stems version doc part to word h);
     says = clear_says size word other one two;
   }
 
   last_word_placed : (p : _) (q : _) (r : _) (size : ℕ) (word other : PhraseTests) → is_word word ≡ true → is_word other ≡ true
       → IsPlaced (Filtered' p (Both' q (Negated' r (Phrase other)) (Phrase word)) (F.Window size Unit.Words)) (both_opened (Window size) word other)
-  unfolding opened_aims matches_of
+  unfolding opened_aims matches_of operator_lacks
   last_word_placed p q r size word other one two = record {
     there = (group_fits looks stems version word.variants, group_fits looks stems version other.variants);
+    lacks = λ doc part to h. variants_found looks stems version doc part to word h;
     says = λ asked.
         ap (λ ms. satisfied (ft_filtered (F.Window size Unit.Words) (own_span asked.span) ms))
         (negated_first (own_span asked.span) (map (hit_on asked word) (spots_of asked.span (wants asked word))) (map (hit_on asked other) (spots_of asked.span (wants asked other))))
@@ -164,7 +174,7 @@ module _ (looks : Looks) (stems : List Stem) (version : List Numbered) where
 
   pub placed_opened : (run : RunPlaced) (plan : WaysPlan) (phrases : PlacedShape) → merge_of plan.operator ≡ None → IsPlaced plan.operator phrases → placed_shape run ≡ phrases
       → IsOpened looks stems version (shape (R.Placed run)) (N.Ways plan)
-  unfolding run_truth IsSound run_cost
+  unfolding run_truth skip IsSound run_cost
   placed_opened run plan phrases none placed opened =
       let own : shape (R.Placed run) ≡ by_spots phrases = shape-Placed run ∙ ap by_spots opened in
       subst (λ (s : Shape). IsOpened looks stems version s (N.Ways plan)) (sym own) (record {
@@ -174,6 +184,7 @@ module _ (looks : Looks) (stems : List Stem) (version : List Numbered) where
             sym (placed.says asked)
             ∙ (λ i. satisfied (matches_of (own_text looks stems version asked there i) (aims_law looks stems version asked there plan.operator i)))
             ∙ sym (truth-Ways plan text);
+        none = λ part asked tokens left h. none_ways looks stems version part asked tokens left plan (placed.lacks asked.doc part asked.span.to h);
         cost = λ word_cost test_cost fair most. omega arith;
         cheap = λ counts h. absurd (true≢false (sym h ∙ cheap-Ways counts plan ∙ unmerged plan.operator none));
       })

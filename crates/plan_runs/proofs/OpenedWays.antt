@@ -32,6 +32,7 @@ use Rattle.plan_runs.specs.steps.OpenedItems.{opened_item, opened_variant}
 use Rattle.plan_runs.specs.steps.OpenedOperators.{AreAims, aims_of, opened_aims}
 use Rattle.plan_runs.specs.steps.OpenedWords.{IsOpened}
 use Rattle.plan_runs.specs.steps.RunCosts.{run_cost}
+use Rattle.plan_runs.specs.steps.RunSkips.{skip}
 use Rattle.plan_runs.specs.steps.RunShapes.{Shape, WaysShape, shape, by_ways}
 use Rattle.plan_runs.specs.steps.RunTruth.{IsSound, run_truth}
 use Rattle.plan_compiler.specs.declared.item_matching.ItemTest.{ItemTest}
@@ -46,8 +47,9 @@ use Rattle.plan_runs.specs.declared.run_ways.RunWays.{RunWays}
 use Rattle.plan_runs.proofs.GroupLaw.{wanted_same}
 use Rattle.plan_runs.proofs.KnownTexts.{text_known}
 use Rattle.plan_compiler.proofs.NodeViews.{cheap-Ways, truth-Ways}
-use Rattle.plan_runs.proofs.SkipLaw.{nothing_there}
-use Rattle.plan_runs.proofs.OpenedLemmas.{begins_same, item_says}
+use Rattle.plan_runs.proofs.SkipLaw.{none_ways, skip_lacks}
+use Rattle.plan_runs.proofs.OpenedLemmas.{begins_same}
+use Rattle.plan_runs.proofs.OpenedTests.{item_says}
 use Rattle.plan_runs.proofs.RunViews.{shape-Ways}
 
 -- ---- tokens that are known
@@ -133,7 +135,7 @@ module _ (looks : Looks) (stems : List Stem) (version : List Numbered) where
 
   pub ways_opened : (run : Box RunWays Global) (plan : WaysPlan) (node : Node) → node ≡ N.Ways plan → merge_of plan.operator ≡ None → aims_of run.value.tuples ≡ opened_aims looks stems version plan.operator
       → skip_of run.value.needs ≡ opened_skip looks stems version plan.operator → IsOpened looks stems version (shape (R.Ways run)) node
-  unfolding run_truth IsSound run_cost
+  unfolding run_truth skip IsSound run_cost
   ways_opened run plan node is none opened skipped =
       let made : WaysShape = record { aims = opened_aims looks stems version plan.operator; skips = opened_skip looks stems version plan.operator } in
       let own : shape (R.Ways run) ≡ by_ways made = shape-Ways run ∙ (λ i. by_ways (record { aims = opened i; skips = skipped i })) in
@@ -145,11 +147,14 @@ module _ (looks : Looks) (stems : List Stem) (version : List Numbered) where
             ap is_plain (aims_law asked is_there plan.operator) ∙ plan.plain (looked_text looks stems (tokens_in version asked));
       } in
       subst (λ (s : Shape). IsOpened looks stems version s node) (sym own) (record {
-        sound = record { aims = sound; skipped = λ doc part span within h. nothing_there looks stems version doc part span within (own_span span) plan.operator h };
+        sound = sound;
         says = λ asked there.
             let whole = looked_text looks stems (tokens_in version asked) in
             (λ i. satisfied (matches_of (own_text asked there i) (aims_law asked there plan.operator i)))
             ∙ sym (ap (λ (n : Node). truth n whole) is ∙ truth-Ways plan whole);
+        none = λ part asked tokens left h.
+            ap (λ (n : Node). truth n (looked_text looks stems tokens)) is
+            ∙ none_ways looks stems version part asked tokens left plan (skip_lacks looks stems version asked.doc part asked.span.to plan.operator h);
         cost = λ word_cost test_cost fair most. omega arith;
         cheap = λ counts h. absurd (true≢false (sym h ∙ ap (is_cheap_node counts) is ∙ cheap-Ways counts plan ∙ unmerged plan.operator none));
       })

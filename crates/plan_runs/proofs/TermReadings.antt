@@ -1,5 +1,5 @@
 -- How many terms are read to skip a phrase, or words that are counted: those of all their words.
-use Rattle.std.proofs.Common.{◌≡◌, ℕ, List, [], ◌∷◌, map, refl, sym, ap, ◌∙◌}
+use Rattle.std.proofs.Common.{◌≡◌, ℕ, List, map, sym, ◌∙◌}
 use Rattle.std.specs.List.{sum_by}
 use Rattle.index_phrases.specs.steps.Aiming.{variant_words}
 use Rattle.index_phrases.specs.declared.word_terms.WordTerms.{WordTerms}

@@ -8,7 +8,7 @@ use Rattle.std.proofs.lemmas.List.Sums.{sum_by-cons}
 use Rattle.index_meaning.specs.Documents.{Numbered}
 use Rattle.plan_runs.specs.steps.CheapShapes.{are_cheap_shapes, is_cheap_shape}
 use Rattle.plan_runs.specs.steps.RunCosts.{run_cost, run_costs, words_cost}
-use Rattle.plan_runs.specs.steps.RunShapes.{hits_shape, near_shape, Shape, Shapes, shape, shapes_of, words, any_of, all_of, not_of, by_ways, by_near, by_hits, by_merge, none, more, merge_shape, words_shape, ways_shape, by_spots, placed_shape, by_counts, counts_shape}
+use Rattle.plan_runs.specs.steps.RunShapes.{hits_shape, near_shape, Shape, Shapes, shape, shapes_of, words, any_of, all_of, not_of, by_ways, by_near, by_hits, by_merge, none, more, merge_shape, words_shape, by_spots, placed_shape, by_counts, counts_shape}
 use Rattle.plan_runs.specs.steps.AskedSpans.{AskedSpan, words_in}
 use Rattle.plan_runs.specs.steps.Passes.{AreHits, hits_say}
 use Rattle.plan_runs.specs.steps.Counts.{AreCounts, counts_cost, counts_say}
@@ -16,7 +16,7 @@ use Rattle.plan_runs.specs.steps.Merges.{IsMerge, merge_cost, merge_says}
 use Rattle.plan_runs.specs.steps.NearRuns.{AreNear}
 use Rattle.plan_runs.specs.steps.Skips.{skip_of}
 use Rattle.plan_runs.specs.steps.OpenedOperators.{AreAims, aims_of}
-use Rattle.plan_runs.specs.steps.RunTruth.{ArePlaced, AreSound, AreWays, IsSound, IsWords, aims_say, all_true, placed_say, run_truth, some_true, words_say}
+use Rattle.plan_runs.specs.steps.RunTruth.{ArePlaced, AreSound, IsSound, IsWords, aims_say, all_true, placed_say, run_truth, some_true, words_say}
 use Rattle.plan_runs.specs.declared.run_node.RunWords.{RunWords}
 use Rattle.plan_runs.specs.declared.run_counts.RunCounts.{RunCounts}
 use Rattle.plan_runs.specs.declared.run_hits.RunHits.{RunHits}
@@ -51,9 +51,7 @@ module _ (version : List Numbered) (asked : AskedSpan) (node : RunNode) where
 
   pub sound-Ways : (run : Box RunWays Global) → node ≡ R.Ways run → IsSound version (shape node) → AreAims version (aims_of run.value.tuples)
   unfolding IsSound
-  sound-Ways run is h =
-      let fits : AreWays version (ways_shape run.value) = subst (IsSound version) (ap shape is ∙ shape-Ways run) h in
-      fits.aims
+  sound-Ways run is h = subst (IsSound version) (ap shape is ∙ shape-Ways run) h
 
   pub sound-Near : (run : Box RunNear Global) → node ≡ R.Near run → IsSound version (shape node) → AreNear version (near_shape run.value)
   unfolding IsSound

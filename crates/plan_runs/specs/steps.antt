@@ -12,6 +12,7 @@ pub mod RuledOut
 pub mod OpenedItems
 pub mod OpenedOperators
 pub mod OpenedWords
+pub mod LeftTokens
 pub mod AskedSpans
 pub mod AskedPlaces
 pub mod RunCosts

@@ -1,12 +1,13 @@
 //! Who says whether the tokens of an element satisfy a selection.
 
-ghost use Rattle.std.specs.Prelude.{◌≡◌, ◌≤◌, ◌+◌, true, false};
+ghost use Rattle.std.specs.Prelude.{◌≡◌, ◌≤◌, ◌+◌, true, false, List};
 ghost use Rattle.ft_base.specs.declared.span.Span.{Span};
+ghost use Rattle.ft_base.specs.declared.token.Token.{Token};
 ghost use Rattle.index_meaning.specs.Documents.{document_at, has_document, token_count};
 ghost use Rattle.index_phrases.specs.Tokens.{span_tokens};
 ghost use Rattle.plan_compiler.specs.CheapSelections.{is_cheap};
 ghost use Rattle.plan_compiler.specs.Lexicon.{lexicon};
-ghost use Rattle.plan_runs.specs.Judgement.{Judgement};
+ghost use Rattle.plan_runs.specs.Judgement.{HaveWordsOf, Judgement};
 ghost use Rattle.plan_runs.specs.RunPrice.{price_at};
 
 use crate::run::Run;
@@ -32,6 +33,24 @@ pub trait Judge {
         requires there { has_document doc.0 run.old.version ≡ true }
         requires inside { (1 ≤ span.from) × (span.from ≤ span.to) × (span.to ≤ token_count (document_at doc.0 run.old.version) + 1) }
         ensures says { result ≡ says run.old.form run.old.lists (span_tokens span (document_at doc.0 run.old.version)) }
+        ensures same { run.new ≡ run.old }
+        ensures grown { moves.old ≤ moves.new }
+        ensures price { is_cheap (lexicon run.old.lists) run.old.form ≡ true → moves.new ≤ moves.old + price_at run.old doc.0 span };
+
+    /// Whether it is known that of no tokens whose words all stand in the span of the document `judge` says that they satisfy the selection of
+    /// the run: not of those of the span, nor of what is left of it. False says nothing. The run stays over its selection, its lists and
+    /// its version. It takes no memory, and counts what it reads of the index, for no more than the price of a cheap selection there.
+    fn lacks<L: Ledger>(
+        &self,
+        run: &mut Run<'_>,
+        doc: DocId,
+        span: Span,
+        moves: &mut Steps<L>,
+    ) -> bool
+        requires there { has_document doc.0 run.old.version ≡ true }
+        requires inside { (1 ≤ span.from) × (span.from ≤ span.to) × (span.to ≤ token_count (document_at doc.0 run.old.version) + 1) }
+        ensures none { result ≡ true → (tokens : List Token) → HaveWordsOf tokens (span_tokens span (document_at doc.0 run.old.version))
+            → says run.old.form run.old.lists tokens ≡ false }
         ensures same { run.new ≡ run.old }
         ensures grown { moves.old ≤ moves.new }
         ensures price { is_cheap (lexicon run.old.lists) run.old.form ≡ true → moves.new ≤ moves.old + price_at run.old doc.0 span };
@@ -64,6 +83,16 @@ impl Judge for Direct {
         moves: &mut Steps<L>,
     ) -> bool {
         run.test(doc, span, moves)
+    }
+
+    fn lacks<L: Ledger>(
+        &self,
+        run: &mut Run<'_>,
+        doc: DocId,
+        span: Span,
+        moves: &mut Steps<L>,
+    ) -> bool {
+        run.lacks(doc, span, moves)
     }
 
     fn skip_to(&self, run: &Run<'_>, doc: DocId, from: u32) -> u32 {

@@ -17,7 +17,7 @@ use std::sync::ledger::Ledger;
 const ENOUGH: u32 = 3;
 
 /// A stretch of the document that was looked up or tested last, from `from` on and before `to`: no span of the document in it satisfies
-/// the selection.
+/// the selection, nor does what is left of one.
 #[derive(Clone, Copy)]
 pub(crate) struct RuledOut {
     pub(crate) doc: DocId,

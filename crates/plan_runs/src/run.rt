@@ -1,12 +1,14 @@
 //! Plans opened over a version of the index, and tested at spans of its documents.
 
-ghost use Rattle.std.specs.Prelude.{◌≡◌, ◌≤◌, ◌+◌, ◌*◌, true, false, IfOk};
+ghost use Rattle.std.specs.Prelude.{◌≡◌, ◌≤◌, ◌+◌, ◌*◌, true, false, List, IfOk};
 ghost use Rattle.ft_base.specs.declared.span.Span.{Span};
+ghost use Rattle.ft_base.specs.declared.token.Token.{Token};
 ghost use Rattle.all_matches.specs.Meaning.{sat};
 ghost use Rattle.index_meaning.specs.Documents.{document_at, has_document, token_count};
 ghost use Rattle.index_phrases.specs.Tokens.{span_tokens};
 ghost use Rattle.plan_compiler.specs.CheapSelections.{is_cheap, is_cheap_or_counted};
 ghost use Rattle.plan_compiler.specs.Lexicon.{lexicon};
+ghost use Rattle.plan_runs.specs.Judgement.{HaveWordsOf};
 ghost use Rattle.plan_runs.specs.RunPrice.{price_at};
 
 use crate::asked_place::AskedPlace;
@@ -121,6 +123,26 @@ impl<'v> Run<'v> {
         false
     }
 
+    /// Whether it is known that no tokens whose words all stand in the span of the document satisfy the plan's selection, whichever of them
+    /// are taken and in whatever order, sentences and paragraphs they are: words that it needs don't stand there. False says nothing. It
+    /// looks how far these words are, counts a move for each term of theirs, and takes no memory.
+    pub fn lacks<L: Ledger>(&mut self, doc: DocId, span: Span, moves: &mut Steps<L>) -> bool
+        requires there { has_document doc.0 self.old.version ≡ true }
+        requires inside { (1 ≤ span.from) × (span.from ≤ span.to) × (span.to ≤ token_count (document_at doc.0 self.old.version) + 1) }
+        ensures none { result ≡ true → (tokens : List Token) → HaveWordsOf tokens (span_tokens span (document_at doc.0 self.old.version))
+            → sat (lexicon self.old.lists) self.old.form tokens ≡ false }
+        ensures same { self.new ≡ self.old }
+        ensures price { is_cheap (lexicon self.old.lists) self.old.form ≡ true → moves.new ≤ moves.old + price_at self.old doc.0 span }
+        ensures grown { moves.old ≤ moves.new }
+    {
+        if self.ruled_out.holds(doc, span) {
+            return true;
+        }
+        let to = skip_from(doc, span.from, &self.root, moves);
+        self.ruled_out = self.ruled_out.answered(doc, span, to);
+        self.ruled_out.holds(doc, span)
+    }
+
     /// Looks the words that the selection needs up in the document's directory of terms, and reads no row: of a document in which one
     /// that is needed doesn't stand all is ruled out. Who asks much of one document looks each of them up there once. After words that
     /// are needed and aren't there nothing is looked up.
@@ -133,7 +155,7 @@ impl<'v> Run<'v> {
 
     /// A place up to which it is known that the document can be skipped: no span of it that starts at `from` or after, and ends there
     /// or before it, satisfies the plan's selection, since words that it needs stand further on. 0 says nothing, and the greatest
-    /// number says that nothing is left in the document. It tells what `look_up` and `test` found, and reads nothing.
+    /// number says that nothing is left in the document. It tells what `look_up`, `test` and `lacks` found, and reads nothing.
     pub fn skip_to(&self, doc: DocId, from: u32) -> u32
         requires there { has_document doc.0 self.now.version ≡ true }
         ensures none { (span : Span)

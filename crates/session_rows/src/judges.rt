@@ -34,6 +34,20 @@ impl<'c> Judge for Counting<'c> {
         run.test(doc, span, moves)
     }
 
+    fn lacks<L: Ledger>(
+        &self,
+        run: &mut Run<'_>,
+        doc: DocId,
+        span: Span,
+        moves: &mut Steps<L>,
+    ) -> bool {
+        if self.skips {
+            run.lacks(doc, span, moves)
+        } else {
+            false
+        }
+    }
+
     fn skip_to(&self, run: &Run<'_>, doc: DocId, from: u32) -> u32 {
         if self.skips {
             run.skip_to(doc, from)
@@ -60,6 +74,16 @@ impl Judge for Contrary {
         !run.test(doc, span, moves)
     }
 
+    fn lacks<L: Ledger>(
+        &self,
+        _run: &mut Run<'_>,
+        _doc: DocId,
+        _span: Span,
+        _moves: &mut Steps<L>,
+    ) -> bool {
+        false
+    }
+
     fn skip_to(&self, _run: &Run<'_>, _doc: DocId, _from: u32) -> u32 {
         0
     }
@@ -80,6 +104,16 @@ impl Judge for Content {
         _moves: &mut Steps<L>,
     ) -> bool {
         true
+    }
+
+    fn lacks<L: Ledger>(
+        &self,
+        _run: &mut Run<'_>,
+        _doc: DocId,
+        _span: Span,
+        _moves: &mut Steps<L>,
+    ) -> bool {
+        false
     }
 
     fn skip_to(&self, _run: &Run<'_>, _doc: DocId, _from: u32) -> u32 {
@@ -108,6 +142,16 @@ impl<'c> Judge for Discontent<'c> {
         _moves: &mut Steps<L>,
     ) -> bool {
         self.asked.set(self.asked.get().wrapping_add(1));
+        false
+    }
+
+    fn lacks<L: Ledger>(
+        &self,
+        _run: &mut Run<'_>,
+        _doc: DocId,
+        _span: Span,
+        _moves: &mut Steps<L>,
+    ) -> bool {
         false
     }
 

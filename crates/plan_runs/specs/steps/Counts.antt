@@ -1,5 +1,5 @@
 -- Words that are counted in one window, sentence or paragraph: what they say, when they fit a version, and how they are opened over one.
-use Rattle.std.specs.Prelude.{◌≡◌, ℕ, ◌+◌, Bool, true, nat_lt, List, flat_map, map, Option}
+use Rattle.std.specs.Prelude.{◌≡◌, ℕ, Bool, true, nat_lt, List, flat_map, map, Option}
 use Rattle.std.specs.List.{All, list_any, sum_by}
 use Rattle.ft_base.specs.declared.places.Breaks.{Breaks}
 use Rattle.ft_base.specs.declared.unit.TextUnit.{TextUnit}

@@ -1,12 +1,10 @@
 -- Windows and scopes over phrases, decided by one pass through the ends of their hits: when it fits a version, and how it is opened over one.
-use Rattle.std.specs.Prelude.{◌≡◌, ℕ, true, false, List, [], ◌++◌, Option}
+use Rattle.std.specs.Prelude.{◌≡◌, ℕ, true, List, [], ◌++◌, Option}
 use Rattle.std.specs.List.{list_all}
 use Rattle.ft_base.specs.declared.span.Span.{Span}
-use Rattle.all_matches.specs.Boolean.{satisfied}
-use Rattle.all_matches.specs.Ways.{either, together, through_filter, matches_of}
+use Rattle.all_matches.specs.Ways.{either, together, through_filter}
 use Rattle.ft_operators.specs.Phrases.{PhraseAims}
 use Rattle.ft_operators.specs.Standing.{Aims, one_aims, two_aims}
-use Rattle.ft_operators.specs.Walk.{own_span}
 use Rattle.index_meaning.specs.Documents.{Numbered, has_document}
 use Rattle.phrase_merges.specs.Near.{AreTold}
 use Rattle.phrase_merges.specs.NearTrees.{lists_aims}
@@ -15,7 +13,6 @@ use Rattle.word_lists.specs.Stems.{Stem}
 use Rattle.plan_compiler.specs.declared.looks.Looks.{Looks}
 use Rattle.plan_compiler.specs.declared.operator_plan.OperatorPlan.{OperatorPlan, Phrase, Choice', Both', MildNot', Negated', Filtered'}
 use Rattle.plan_runs.specs.steps.Passes.{phrase_variants}
-use Rattle.plan_runs.specs.steps.Skips.{IsWithin, ends_before}
 
 -- what the selection is at the spans of documents, where each variant of each phrase may be aimed and which hits it has there, and up to
 -- where parts of documents can be skipped for want of what is needed
@@ -25,13 +22,11 @@ pub record NearShape : Type 0 where
   pub skips : ℕ → Span → Option ℕ
 
 -- it may be aimed at each document that is there; the hits of a variant rise, and those of all are told in the sentences and paragraphs of
--- one text; spans that can be skipped don't satisfy the selection
+-- one text
 pub record AreNear (version : List Numbered) (run : NearShape) : Type 0 where
   pub may : (doc : ℕ) (span : Span) → has_document doc version ≡ true → run.aims.may doc span ≡ true
   pub rising : (doc : ℕ) (span : Span) → list_all (λ aims. is_rising (aims.hits doc span)) run.lists ≡ true
   pub told : (doc : ℕ) (span : Span) → AreTold (hits_there doc span run.lists)
-  pub skipped : (doc : ℕ) (part span : Span) → IsWithin part span → ends_before span.to (run.skips doc part) ≡ true
-      → satisfied (matches_of (own_span span) (run.aims.operators doc span)) ≡ false
 
 -- ---- opened over a version
 

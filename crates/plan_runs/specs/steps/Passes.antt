@@ -1,5 +1,5 @@
 -- Filters that are decided by one pass through the hits of phrases: what they say, and how they are opened over a version.
-use Rattle.std.specs.Prelude.{◌≡◌, ℕ, Bool, true, false, List, [], ◌∷◌, map, Option}
+use Rattle.std.specs.Prelude.{◌≡◌, ℕ, Bool, true, List, [], ◌∷◌, map, Option}
 use Rattle.ft_base.specs.declared.span.Span.{Span}
 use Rattle.ft_operators.specs.Phrases.{PhraseAims}
 use Rattle.index_meaning.specs.Documents.{Numbered, has_document}
@@ -15,7 +15,6 @@ use Rattle.plan_kinds.specs.steps.JoinedPhrases.{joined_phrases}
 use Rattle.plan_kinds.specs.steps.PassKinds.{hits_stand}
 use Rattle.plan_runs.specs.steps.AskedSpans.{AskedSpan}
 use Rattle.plan_runs.specs.steps.OpenedItems.{opened_variant}
-use Rattle.plan_runs.specs.steps.Skips.{IsWithin, ends_before}
 use Rattle.plan_kinds.specs.declared.pass_kind.PassKind.{PassKind}
 
 -- ---- what they say
@@ -31,12 +30,10 @@ pub record HitsShape : Type 0 where
 abbrev pub hits_say : HitsShape → AskedSpan → Bool
 hits_say run asked = some_choice (hits_stand run.kind) (map (hits_there asked.doc asked.span) run.phrases)
 
--- each variant may be aimed at each document that is there, and has hits that rise; in spans that can be skipped, nothing stands
+-- each variant may be aimed at each document that is there, and has hits that rise
 pub record AreHits (version : List Numbered) (run : HitsShape) : Type 0 where
   pub may : (doc : ℕ) (span : Span) → has_document doc version ≡ true → all_may doc span run.phrases ≡ true
   pub rising : (doc : ℕ) (span : Span) → rise_there doc span run.phrases ≡ true
-  pub skipped : (doc : ℕ) (part span : Span) → IsWithin part span → ends_before span.to (run.skips doc part) ≡ true
-      → hits_say run (record { doc = doc; span = span }) ≡ false
 
 -- ---- opened over a version
 

@@ -1,7 +1,6 @@
 -- What a run's tree says of a span of a document, and when it fits a version.
-use Rattle.std.specs.Prelude.{◌≡◌, ⊤, ℕ, Bool, true, false, not, ◌&&◌, ◌||◌, List, [], map, sum}
+use Rattle.std.specs.Prelude.{◌≡◌, ⊤, ℕ, Bool, true, false, not, ◌&&◌, ◌||◌, List, map, sum}
 use Rattle.std.specs.List.{All, list_any}
-use Rattle.ft_base.specs.declared.span.Span.{Span}
 use Rattle.all_matches.specs.Boolean.{satisfied}
 use Rattle.all_matches.specs.Counting.{places}
 use Rattle.all_matches.specs.Compositional.{enough}
@@ -17,8 +16,7 @@ use Rattle.plan_runs.specs.steps.NearRuns.{AreNear}
 use Rattle.plan_runs.specs.steps.OpenedOperators.{AreAims}
 use Rattle.plan_runs.specs.steps.Passes.{AreHits, hits_say}
 use Rattle.index_phrases.specs.steps.Aiming.{AreThere, wanted_size}
-use Rattle.plan_runs.specs.steps.Skips.{IsWithin, ends_before}
-use Rattle.plan_runs.specs.steps.RunShapes.{GroupShape, WaysShape, WordsShape, PlacedShape, at_edge, outside}
+use Rattle.plan_runs.specs.steps.RunShapes.{GroupShape, WordsShape, PlacedShape, at_edge, outside}
 use Rattle.plan_runs.specs.steps.RunShapes.{Shape, Shapes, words, any_of, all_of, not_of, by_ways, by_near, by_hits, by_merge, none, more, by_spots, by_counts}
 use Rattle.index_phrases.specs.Phrases.{wanted_at}
 use Rattle.place_merges.specs.declared.spot.Spot.{Spot}
@@ -91,12 +89,6 @@ pub record IsGroup (version : List Numbered) (group : GroupShape) : Type 0 where
 abbrev pub IsWords : List Numbered → WordsShape → Type 0
 IsWords version run = All (All (IsGroup version)) run.phrases
 
--- the walk fits the version, and spans that can be skipped have no Match
-pub record AreWays (version : List Numbered) (run : WaysShape) : Type 0 where
-  pub aims : AreAims version run.aims
-  pub skipped : (doc : ℕ) (part span : Span) → IsWithin part span → ends_before span.to (run.skips doc part) ≡ true
-      → matches_of (own_span span) (run.aims.operators doc span) ≡ []
-
 abbrev pub ArePlaced : List Numbered → PlacedShape → Type 0
 ArePlaced version (at_edge edge variants) = All (All (AreThere version)) variants
 ArePlaced version (outside kind left right) = IsGroup version left × IsGroup version right
@@ -107,7 +99,7 @@ unfoldable mutual
   IsSound version (any_of parts) = AreSound version parts
   IsSound version (all_of parts) = AreSound version parts
   IsSound version (not_of part) = IsSound version part
-  IsSound version (by_ways run) = AreWays version run
+  IsSound version (by_ways run) = AreAims version run.aims
   IsSound version (by_near run) = AreNear version run
   IsSound version (by_hits run) = AreHits version run
   IsSound version (by_merge merge) = IsMerge version merge

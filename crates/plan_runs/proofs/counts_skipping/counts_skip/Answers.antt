@@ -1,6 +1,6 @@
 -- By the items of the shape.
 use Rattle.std.proofs.Common.{◌∙◌, arith}
-use Rattle.plan_runs.proofs.CountSkipLaw.{counts_listed}
+use Rattle.plan_runs.proofs.SkipViews.{counts_listed}
 use Rattle.plan_runs.proofs.TermReadings.{counts_read}
 use Rattle.plan_runs.proofs.counts_skipping.counts_skip.Goals as goal
 

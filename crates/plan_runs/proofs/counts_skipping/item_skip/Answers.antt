@@ -1,11 +1,11 @@
 -- By the groups of an item that asks for a hit.
-use Rattle.std.proofs.Common.{◌≡◌, ◌∙◌, Bool, true, false, cond, map, sym, ap, Option, ℕ, Some, arith}
+use Rattle.std.proofs.Common.{◌≡◌, ◌∙◌, Bool, true, false, cond, map, sym, ap, Some, arith}
 use Rattle.std.specs.Prelude.{nat_lt}
 use Rattle.std.proofs.lemmas.Bool.{le-ltb, lt-ltb}
 use Rattle.index_versions.specs.FirstPlaces.{soonest}
 use Rattle.plan_runs.specs.steps.RunShapes.{term_groups}
 use Rattle.plan_runs.specs.steps.Skips.{variants_skip}
-use Rattle.plan_runs.proofs.CountSkipLaw.{groups_listed}
+use Rattle.plan_runs.proofs.SkipViews.{groups_listed}
 use Rattle.plan_runs.proofs.TermReadings.{groups_read}
 use Rattle.plan_runs.proofs.counts_skipping.item_skip.Goals as goal
 

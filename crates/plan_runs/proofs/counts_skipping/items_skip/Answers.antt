@@ -1,6 +1,5 @@
 -- One item more; where one of them has nothing there, they don't fit there together.
-use Rattle.std.proofs.Common.{◌≡◌, ◌≤◌, ◌+◌, ◌∙◌, ap, map, sym, Some, arith}
-use Rattle.std.specs.List.{sum_by}
+use Rattle.std.proofs.Common.{◌+◌, ◌∙◌, ap, map, sym, Some, arith}
 use Rattle.plan_runs.specs.steps.Counts.{item_cost}
 use Rattle.plan_runs.specs.steps.RunCosts.{term_count}
 use Rattle.plan_runs.specs.steps.RunShapes.{term_counts}

@@ -1,5 +1,5 @@
 -- One group more was looked up.
-use Rattle.std.proofs.Common.{◌≡◌, ◌<◌, ◌+◌, ℕ, List, length, map, ap, refl, arith}
+use Rattle.std.proofs.Common.{◌<◌, ℕ, List, length, map, refl, arith}
 use Rattle.index_phrases.specs.declared.word_terms.WordTerms.{WordTerms}
 use Rattle.index_phrases.specs.steps.Aiming.{variant_words}
 use Rattle.plan_runs.specs.steps.Skips.{variants_skip}

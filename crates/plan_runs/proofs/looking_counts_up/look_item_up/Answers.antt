@@ -1,5 +1,5 @@
 -- By the groups of an item that asks for a hit.
-use Rattle.std.proofs.Common.{◌≡◌, ◌∙◌, Bool, true, cond, map, ap, Option, ℕ, Some, arith}
+use Rattle.std.proofs.Common.{◌≡◌, ◌∙◌, Bool, true, cond, map, ap, Some, arith}
 use Rattle.std.specs.Prelude.{nat_lt}
 use Rattle.std.proofs.lemmas.Bool.{lt-ltb}
 use Rattle.index_versions.specs.FirstPlaces.{soonest}

@@ -1,5 +1,5 @@
 -- What is needed is needed up to the same places; where it is missing, each side says it.
-use Rattle.std.proofs.Common.{ap, sym, ◌∙◌, Box, Global, Vec, map, None}
+use Rattle.std.proofs.Common.{ap, sym, ◌∙◌, Box, Global, Vec, map}
 use Rattle.std.proofs.lemmas.Simd.{map-map}
 use Rattle.index_versions.specs.FirstPlaces.{sooner, soonest}
 use Rattle.index_phrases.specs.declared.word_terms.WordTerms.{WordTerms}

@@ -17,7 +17,7 @@ use Rattle.plan_runs.specs.declared.run_merge.RunMerge.{RunMerge}
 use Rattle.plan_runs.specs.declared.run_node.RunWords.{RunWords}
 use Rattle.plan_runs.specs.declared.run_placed.RunPlaced.{RunPlaced}
 use Rattle.plan_runs.proofs.MissingLemmas.{all_missing, missing_more, one_missing}
-use Rattle.plan_runs.proofs.RunSkipLaw.{skip-And, skip-Counted, skip-Hits, skip-Merge, skip-Near, skip-Or, skip-Placed, skip-Ways, skip-Words}
+use Rattle.plan_runs.proofs.SkipViews.{skip-And, skip-Counted, skip-Hits, skip-Merge, skip-Near, skip-Or, skip-Placed, skip-Ways, skip-Words}
 use Rattle.plan_runs.proofs.TreeLemmas.{same-And, same-Counted, same-Hits, same-Merge, same-Near, same-Or, same-Placed, same-Ways, same-Words, weights, weight_at, weight-And, weight-Or}
 use Rattle.plan_runs.proofs.looking_up.+looking_up.Goals as goal
 

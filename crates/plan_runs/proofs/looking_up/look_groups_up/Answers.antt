@@ -1,5 +1,5 @@
 -- One group more was looked up.
-use Rattle.std.proofs.Common.{◌≡◌, ◌<◌, ◌+◌, get_or, length, map, ap, refl, arith}
+use Rattle.std.proofs.Common.{◌<◌, length, map, ap, refl, arith}
 use Rattle.std.proofs.Common.{List}
 use Rattle.index_phrases.specs.declared.word_terms.WordTerms.{WordTerms}
 use Rattle.index_phrases.specs.steps.Aiming.{sizes_of}

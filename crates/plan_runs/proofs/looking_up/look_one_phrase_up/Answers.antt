@@ -1,5 +1,5 @@
 -- One phrase more was looked up.
-use Rattle.std.proofs.Common.{◌≡◌, ◌<◌, ◌+◌, get_or, length, map, ap, refl, arith}
+use Rattle.std.proofs.Common.{◌<◌, length, map, refl, arith}
 use Rattle.plan_runs.specs.steps.RunShapes.{phrase_shape}
 use Rattle.plan_runs.specs.steps.RunSkips.{phrase_skip}
 use Rattle.plan_runs.specs.declared.run_node.RunPhrase.{RunPhrase}

@@ -1,5 +1,5 @@
 -- By the variants of the phrase.
-use Rattle.std.proofs.Common.{◌∙◌, ap, sym, map}
+use Rattle.std.proofs.Common.{◌∙◌, ap}
 use Rattle.plan_runs.specs.steps.RunShapes.{placed_shape}
 use Rattle.plan_runs.specs.steps.RunSkips.{placed_skip}
 use Rattle.plan_runs.proofs.looking_up.look_placed_up.Goals as goal

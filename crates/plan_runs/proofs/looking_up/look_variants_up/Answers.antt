@@ -1,5 +1,5 @@
 -- One variant more was looked up.
-use Rattle.std.proofs.Common.{◌≡◌, ◌<◌, ◌+◌, get_or, length, map, ap, refl, arith}
+use Rattle.std.proofs.Common.{◌<◌, length, map, refl, arith}
 use Rattle.index_phrases.specs.steps.Aiming.{variant_words}
 use Rattle.plan_runs.specs.steps.Skips.{variant_skip}
 use Rattle.index_phrases.proofs.PartLemmas.{as_many, part_at, parts_kept}

@@ -1,5 +1,5 @@
 -- The first groups have their cursors.
-use Rattle.std.proofs.Common.{◌≡◌, map, take}
+use Rattle.std.proofs.Common.{◌≡◌, take}
 use Rattle.plan_runs.specs.steps.Counts.{group_sizes}
 use Rattle.plan_runs.specs.steps.RunShapes.{back_sizes, front_sizes, term_groups}
 use Rattle.plan_runs.proofs.opening_counts.groups_of.Given as goal

@@ -1,8 +1,7 @@
 -- The words and their cursors are those of the plan.
-use Rattle.std.proofs.Common.{◌≡◌, ◌∙◌, ℕ, Option, List, ap, map}
+use Rattle.std.proofs.Common.{◌∙◌, List, ap, map}
 use Rattle.plan_compiler.specs.declared.counted_plan.CountedWords.{CountedWords}
 use Rattle.plan_runs.specs.steps.Counts.{TermCounts, group_sizes, opened_count}
-use Rattle.plan_runs.specs.steps.RunShapes.{term_counts}
 use Rattle.plan_runs.proofs.opening_counts.open_counts.Goals as goal
 
 pub returns-in-Ok : goal.returns-in-Ok

@@ -1,5 +1,5 @@
 -- What each kind skips, and the terms that are read for it.
-use Rattle.std.proofs.Common.{◌≡◌, ◌<◌, ◌≤◌, ◌+◌, true, true≢false, get_or, length, map, refl, sym, ap, ◌∙◌, subst, Some, arith}
+use Rattle.std.proofs.Common.{◌≡◌, ◌+◌, true, true≢false, get_or, length, map, refl, sym, ap, ◌∙◌, subst, Some, arith}
 use Rattle.std.proofs.lemmas.List.{length-map}
 use Rattle.index_phrases.proofs.PartLemmas.{part_at}
 use Rattle.index_versions.specs.FirstPlaces.{sooner, soonest}
@@ -11,7 +11,7 @@ use Rattle.plan_runs.specs.steps.Skips.{later, latest, skip_of}
 use Rattle.plan_runs.proofs.SkipLemmas.{fold_more, one_is_none}
 use Rattle.plan_runs.proofs.SumLemmas.{one_more}
 use Rattle.plan_runs.proofs.TreeLemmas.{cheap-And, cheap-Hits, cheap-Near, cheap-Or, cheap-Placed, cheap-Ways, cost-And, cost-Counted, cost-Merge, cost-Or, cost-Words, costs_so_far, each_cheap}
-use Rattle.plan_runs.proofs.RunSkipLaw.{skip-Words, skip-Or, skip-And, skip-Not, skip-Ways, skip-Near, skip-Hits, skip-Merge, words_listed, skip-Placed, skip-Counted}
+use Rattle.plan_runs.proofs.SkipViews.{skip-Words, skip-Or, skip-And, skip-Not, skip-Ways, skip-Near, skip-Hits, skip-Merge, words_listed, skip-Placed, skip-Counted}
 use Rattle.plan_runs.specs.declared.run_hits.RunHits.{RunHits}
 use Rattle.plan_runs.specs.declared.run_near.RunNear.{RunNear}
 use Rattle.plan_runs.specs.declared.run_ways.RunWays.{RunWays}

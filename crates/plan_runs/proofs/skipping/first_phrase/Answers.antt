@@ -1,6 +1,5 @@
 -- One phrase more.
-use Rattle.std.proofs.Common.{◌≡◌, ◌≤◌, ◌+◌, ◌∙◌, ap, map, sym, arith}
-use Rattle.std.specs.List.{sum_by}
+use Rattle.std.proofs.Common.{◌∙◌, ap, map, arith}
 use Rattle.index_versions.specs.FirstPlaces.{soonest, sooner}
 use Rattle.plan_runs.specs.steps.RunCosts.{phrase_cost, term_count}
 use Rattle.plan_runs.specs.steps.RunShapes.{phrase_shape}

@@ -1,6 +1,5 @@
 -- One phrase more; where one of them stands nowhere in the part, they don't stand there together.
-use Rattle.std.proofs.Common.{◌≡◌, ◌≤◌, ◌+◌, ◌∙◌, ap, map, sym, Some, arith}
-use Rattle.std.specs.List.{sum_by}
+use Rattle.std.proofs.Common.{◌+◌, ◌∙◌, ap, map, sym, Some, arith}
 use Rattle.plan_runs.specs.steps.RunCosts.{phrase_cost, term_count}
 use Rattle.plan_runs.specs.steps.RunShapes.{phrase_shape}
 use Rattle.plan_runs.specs.steps.RunSkips.{phrase_skip}

@@ -1,6 +1,6 @@
 -- The groups of a phrase, as its shape has them.
 use Rattle.std.proofs.Common.{◌∙◌, arith}
-use Rattle.plan_runs.proofs.RunSkipLaw.{phrase_listed}
+use Rattle.plan_runs.proofs.SkipViews.{phrase_listed}
 use Rattle.plan_runs.proofs.TermReadings.{phrase_read}
 use Rattle.plan_runs.proofs.skipping.phrase_skip.Goals as goal
 

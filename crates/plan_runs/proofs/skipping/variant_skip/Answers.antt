@@ -1,6 +1,5 @@
 -- One word more; where one of them stands nowhere in the part, they don't stand there together.
-use Rattle.std.proofs.Common.{◌≡◌, ◌≤◌, ◌+◌, ◌∙◌, ap, map, sym, Some, arith}
-use Rattle.std.specs.List.{sum_by}
+use Rattle.std.proofs.Common.{◌≤◌, ◌+◌, ◌∙◌, ap, map, sym, Some, arith}
 use Rattle.plan_runs.specs.steps.RunCosts.{term_count}
 use Rattle.plan_runs.specs.steps.Skips.{later, latest, word_skip}
 use Rattle.plan_runs.proofs.SkipLemmas.{fold_more, one_is_none}

@@ -1,5 +1,5 @@
 -- One variant more.
-use Rattle.std.proofs.Common.{◌≡◌, ◌≤◌, ◌+◌, ◌∙◌, ap, map, sym, arith}
+use Rattle.std.proofs.Common.{◌∙◌, ap, map, arith}
 use Rattle.std.specs.List.{sum_by}
 use Rattle.index_versions.specs.FirstPlaces.{soonest, sooner}
 use Rattle.plan_runs.specs.steps.RunCosts.{term_count}

@@ -7,6 +7,7 @@ use Rattle.plan_compiler.specs.Lexicon.{lexicon}
 use Rattle.plan_compiler.specs.PlanMeaning.{plan_form, plan_lists}
 use Rattle.plan_runs.specs.RunMeaning.{RunMeaning, run_of}
 use Rattle.plan_runs.specs.steps.RuledOut.{HasNone}
+use Rattle.plan_runs.proofs.RuledOutLaw.{own_words}
 use Rattle.plan_runs.proofs.run.Run.skip_to.Goals as goal
 
 pub returns : goal.returns
@@ -23,5 +24,6 @@ returns c = record {
       ap (λ (run : RunMeaning). sat (lexicon run.lists) run.form (span_tokens span (document_at c.args.doc.0 run.version))) (sym c.self.view_is)
       ∙ known there span
       (subst (λ (run : RunMeaning). (1 ≤ span.from) × (span.from ≤ span.to) × (span.to ≤ token_count (document_at c.args.doc.0 run.version) + 1)) (sym c.self.view_is) bounds)
-      (omega (arith, after, from)) (omega (arith, within, to));
+      (omega (arith, after, from)) (omega (arith, within, to))
+      (span_tokens span (document_at c.args.doc.0 own.version)) (own_words (span_tokens span (document_at c.args.doc.0 own.version)));
 }

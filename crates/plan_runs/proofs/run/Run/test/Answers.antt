@@ -16,7 +16,7 @@ use Rattle.plan_runs.specs.steps.RunCosts.{moves_for, run_cost, term_count}
 use Rattle.plan_runs.specs.steps.RunShapes.{shape}
 use Rattle.plan_runs.specs.steps.RunSkips.{skip}
 use Rattle.plan_runs.specs.declared.asked_place.AskedPlace.{AskedPlace}
-use Rattle.plan_runs.proofs.RuledOutLaw.{none_skipped}
+use Rattle.plan_runs.proofs.RuledOutLaw.{none_skipped, own_words}
 use Rattle.plan_runs.proofs.RunLaw.{counted_law, price_law, run_law}
 use Rattle.plan_runs.proofs.run.Run.test.Goals as goal
 
@@ -32,7 +32,8 @@ returns-then-holds-clause-says g c =
     (ap (λ (run : RunMeaning). sat (lexicon run.lists) run.form (span_tokens c.args.span (document_at doc run.version))) (sym c.self.view_is)
     ∙ known there c.args.span
     (subst (λ (run : RunMeaning). (1 ≤ c.args.span.from) × (c.args.span.from ≤ c.args.span.to) × (c.args.span.to ≤ token_count (document_at doc run.version) + 1)) (sym c.self.view_is) c.requires.inside)
-    (c.holds.ensures.after c.if-holds.true) (c.holds.ensures.ends_before c.if-holds.true))
+    (c.holds.ensures.after c.if-holds.true) (c.holds.ensures.ends_before c.if-holds.true)
+    (span_tokens c.args.span (document_at doc own.version)) (own_words (span_tokens c.args.span (document_at doc own.version))))
 
 pub returns-then-node_holds-clause-says : goal.returns-then-node_holds-clause-says
 returns-then-node_holds-clause-says g c =
@@ -190,4 +191,18 @@ invariant_of-self-2 g c =
       opened,
       subst (λ d. HasNone (run_of (plan_form plan) (plan_lists plan) version) d known.from known.to) (sym c.answered-self-inside.ensures.doc)
           (none_skipped plan run version opened doc known.from known.to small least),
+    )
+
+-- a test after which it isn't asked leaves what is known
+pub invariant_of-self-then-pauses : goal.invariant_of-self-then-pauses
+invariant_of-self-then-pauses g c =
+    let plan = c.self.inside.plan.now in
+    let version = c.self.inside.version.now in
+    let own = run_of (plan_form plan) (plan_lists plan) version in
+    let old = c.self.inside.ruled_out in
+    let new = c.pauses.new.self in (
+      subst (λ s. IsOpened plan.looks plan.lists.stems version s plan.root) (sym c.node_holds.ensures.same) c.self.invariant.0,
+      subst (λ doc. HasNone own doc new.from new.to) (sym c.pauses.ensures.doc)
+          (subst (λ from. HasNone own old.doc.0 from new.to) (sym c.pauses.ensures.from)
+          (subst (λ to. HasNone own old.doc.0 old.from to) (sym c.pauses.ensures.to) c.self.invariant.1)),
     )
