@@ -166,6 +166,104 @@ doc("x")/r[1]/a[2]
     ),
 ];
 
+// Words that are needed and stand only in what is ignored, only outside of it, or nowhere, and several selections over what is left.
+const NEEDED: [Row; 2] = [
+    (
+        r#"load x
+<r><p>storm <n>rare</n> night</p><p>rare <n>storm</n> night</p><p>night <n>so</n></p><p>storm <n>so</n></p></r>
+.
+query collection()/r/p[. contains text "rare" without content n]
+query collection()/r/p[. contains text "storm" without content n]
+query collection()/r/p[. contains text "so" without content n]
+query collection()/r/p[. contains text "gone" without content n]
+query collection()/r/p[. contains text ftnot "rare" without content n]
+query collection()/r/p[. contains text "rare" ftor "storm" without content n]
+query collection()/r/p[. contains text "rare" ftand "storm" without content n]
+query collection()/r/p[. contains text {"rare", "storm"} all without content n]
+query collection()/r/p[. contains text "storm night" without content n]
+query collection()/r/p[. contains text "rare" occurs at most 0 times without content n]
+query collection()/r/p[. contains text "storm" ftand "night" ordered without content n]
+query collection()/r/p[. contains text "rare" at start without content n]
+query collection()/r/p[. contains text "night" not in "storm night" without content n]
+query collection()/r/p[. contains text ("night" occurs exactly 1 times ftand ftnot "rare") window 3 words without content n]
+query collection()/r/p[. contains text "STORM" using case sensitive without content n]
+"#,
+        r#"ok
+= 1
+doc("x")/r[1]/p[2]
+= 2
+doc("x")/r[1]/p[1]
+doc("x")/r[1]/p[4]
+= 0
+= 0
+= 3
+doc("x")/r[1]/p[1]
+doc("x")/r[1]/p[3]
+doc("x")/r[1]/p[4]
+= 3
+doc("x")/r[1]/p[1]
+doc("x")/r[1]/p[2]
+doc("x")/r[1]/p[4]
+= 0
+= 0
+= 1
+doc("x")/r[1]/p[1]
+= 3
+doc("x")/r[1]/p[1]
+doc("x")/r[1]/p[3]
+doc("x")/r[1]/p[4]
+= 1
+doc("x")/r[1]/p[1]
+= 1
+doc("x")/r[1]/p[2]
+= 2
+doc("x")/r[1]/p[2]
+doc("x")/r[1]/p[3]
+= 3
+doc("x")/r[1]/p[1]
+doc("x")/r[1]/p[2]
+doc("x")/r[1]/p[3]
+= 0
+"#,
+        Status::Done,
+    ),
+    // the same is ignored for several selections, or something else, and of another element
+    (
+        r#"load x
+<r><p>storm <n>rare</n> night</p><p>rare <n>storm</n> night</p><p>night <n>so</n></p><p>storm <n>so</n></p></r>
+.
+query collection()/r/p[. contains text "storm" without content n and . contains text "night" without content n]
+query collection()/r/p[. contains text "rare" without content n or . contains text "storm night" without content n]
+query collection()/r/p[. contains text "storm night" without content n and . contains text "rare" without content b]
+query collection()/r/p[. contains text "night" without content n and . contains text ftnot "night" without content .]
+query collection()/r/p[. contains text "night" without content n and . contains text "night" without content .]
+query collection()/r/p[n contains text ftnot "so" without content n and . contains text "night" without content n]
+query collection()/r/p[. contains text "night" without content n][. contains text "rare" without content n]
+"#,
+        r#"ok
+= 1
+doc("x")/r[1]/p[1]
+= 2
+doc("x")/r[1]/p[1]
+doc("x")/r[1]/p[2]
+= 1
+doc("x")/r[1]/p[1]
+= 3
+doc("x")/r[1]/p[1]
+doc("x")/r[1]/p[2]
+doc("x")/r[1]/p[3]
+= 0
+= 3
+doc("x")/r[1]/p[1]
+doc("x")/r[1]/p[2]
+doc("x")/r[1]/p[3]
+= 1
+doc("x")/r[1]/p[2]
+"#,
+        Status::Done,
+    ),
+];
+
 // Conditions beside others, and selections in what is ignored.
 const CONDITIONS: [Row; 2] = [
     (
@@ -353,6 +451,11 @@ Dr in [Storm] no
 #[test]
 fn what_is_ignored_is_left_out(rt: HostRuntime) -> Result<(), Fail> {
     expect_rows(&rt, rt.alloc(), &LEFT)
+}
+
+#[test]
+fn needed_words_that_are_ignored(rt: HostRuntime) -> Result<(), Fail> {
+    expect_rows(&rt, rt.alloc(), &NEEDED)
 }
 
 #[test]

@@ -1,16 +1,17 @@
 -- What is left of the span of a node in the index is what is left of the node's tokens.
-use Rattle.std.proofs.Common.{◌≡◌, ◌∙◌, sym, ap, refl, ℕ, suc, ◌+◌, ◌-◌, ◌≤◌, ◌==◌, true, ◌||◌, List, [], ◌∷◌, ◌++◌, length, map, Some, append_assoc, append-nil, get_or, arith, IsTrue}
-use Rattle.std.specs.Prelude.{nat_lt}
+use Rattle.std.proofs.Common.{◌≡◌, ◌∙◌, sym, ap, refl, subst, ℕ, suc, ◌+◌, ◌-◌, ◌≤◌, ◌==◌, Bool, true, false, true≢false, ◌||◌, cond, List, [], ◌∷◌, ◌++◌, length, map, Some, append_assoc, append-nil, get_or, arith, IsTrue}
+use Rattle.std.specs.Cmp.Lexicographic.{pointwise}
+use Rattle.std.specs.Prelude.{nat_eq, nat_lt}
 use Rattle.std.specs.List.{All, Contains}
-use Rattle.std.proofs.lemmas.Bool.{and_parts, eq-eqb, or_left}
-use Rattle.std.proofs.lemmas.List.{length-map}
+use Rattle.std.proofs.lemmas.Bool.{and_parts, eq-eqb, eqb-true, or_left}
+use Rattle.std.proofs.lemmas.List.{get_or-map, length-map}
 use Rattle.std.proofs.lemmas.List.Elements.{All-append, All-cons, All-contains, All-nil}
 use Rattle.ft_base.specs.declared.ids.NodeRef.{NodeRef}
 use Rattle.ft_base.specs.declared.span.Span.{Span}
 use Rattle.ft_base.specs.declared.token.Token.{Token}
 use Rattle.ignore_view.specs.Holes.{holes_in, tokens_without}
 use Rattle.ignore_view.specs.Without.{counted, is_left_out, kept_from, without}
-use Rattle.ignore_view.proofs.CountedLemmas.{kept-same}
+use Rattle.ignore_view.proofs.CountedLemmas.{kept-same, words-counted}
 use Rattle.ignore_view.proofs.HoleLemmas.{moved}
 use Rattle.index_cursors.specs.SpanHits.{is_inside}
 use Rattle.index_meaning.specs.Documents as indexed
@@ -24,6 +25,7 @@ use Rattle.ordered_tree.proofs.ShiftLemmas.{length-words_in}
 use Rattle.path_meaning.specs.Elements.{child_at, node_at}
 use Rattle.path_nodes.specs.References.{Spot, spots, child_spots, spots_in, spot_element, element_of}
 use Rattle.path_nodes.proofs.SpotLemmas.{spot-stand}
+use Rattle.plan_runs.specs.Judgement.{HaveWordsOf}
 use Rattle.plan_runs.specs.RunMeaning.{RunMeaning}
 use Rattle.tokenizer.proofs.PartsLemmas.{words-tokens}
 use Rattle.tokenizer.specs.Tokens.{tokens}
@@ -129,6 +131,32 @@ left-of-span abbreviations root r refs n document at at_is same there =
     ap (λ xs. without xs (holes_in at holes)) same
     ∙ (ap counted kept ∙ ap (λ x. tokens_left abbreviations (map (element_of root) refs) x) (sym n.is))
 
+-- ---- the words of what is left are words of the text
+
+abbrev word_of : Token → List ℕ
+word_of token = token.word
+
+contains-more : (xs : List (List ℕ)) (y x : List ℕ) → Contains xs x → Contains (y ∷ xs) x
+contains-more xs y x (k, less, is) = (suc k, omega (arith, less), is)
+
+kept-words : (holes : List Span) (place : ℕ) (ts : List Token) → All (Contains (map word_of ts)) (map word_of (kept_from holes place ts))
+kept-words holes place [] = All-nil (Contains [])
+kept-words holes place (t ∷ ts) = by (kept-words holes (place + 1) ts) (is_left_out holes place)
+  where
+    by : All (Contains (map word_of ts)) (map word_of (kept_from holes (place + 1) ts)) → (b : Bool)
+        → All (Contains (map word_of (t ∷ ts))) (map word_of (cond b (kept_from holes (place + 1) ts) (t ∷ kept_from holes (place + 1) ts)))
+    by rest true = λ k d less. contains-more (map word_of ts) t.word (get_or (map word_of (kept_from holes (place + 1) ts)) k d) (rest k d less)
+    by rest false =
+        All-cons (Contains (map word_of (t ∷ ts))) t.word (map word_of (kept_from holes (place + 1) ts)) (0, omega arith, refl)
+        (λ k d less. contains-more (map word_of ts) t.word (get_or (map word_of (kept_from holes (place + 1) ts)) k d) (rest k d less))
+
+pub left-words : (ts : List Token) (holes : List Span) → HaveWordsOf (without ts holes) ts
+left-words ts holes = λ k d less.
+    let left = without ts holes in
+    let many = length-map left word_of in
+    let each : All (Contains (map word_of ts)) (map word_of left) = subst (All (Contains (map word_of ts))) (sym (words-counted (kept_from holes 1 ts))) (kept-words holes 1 ts) in
+    subst (Contains (map word_of ts)) (get_or-map word_of left k d [] less) (each k [] (omega (arith, less, many)))
+
 -- ---- the span of a node
 
 pub span-is : (root : Numbered) (r : NodeRef) → is_there root r ≡ true → (found : Span) → OnNode root r (λ s. found ≡ span s) → found ≡ span_at root r
@@ -144,3 +172,14 @@ alone-there (d ∷ ds) doc h =
 -- the holes that a test is given are there
 pub holes-there : (runs : List RunMeaning) (root : Numbered) (k : ℕ) (holes : List NodeRef) → All (λ hole. IsTrue (may_ask runs root k hole)) holes → AreThere root holes
 holes-there runs root k holes h = λ i d less. (and_parts (nat_lt k (length runs)) (is_there root (get_or holes i d)) (h i d less)).1
+
+-- ---- lists that name the same nodes
+
+pub same-nodes : (a b : List NodeRef) → pointwise (λ (x y : NodeRef). nat_eq x.0 y.0) a b ≡ true → a ≡ b
+same-nodes [] [] h = refl
+same-nodes [] (y ∷ b) h = absurd (true≢false (sym h))
+same-nodes (x ∷ a) [] h = absurd (true≢false (sym h))
+same-nodes (x ∷ a) (y ∷ b) h =
+    let parts = and_parts (nat_eq x.0 y.0) (pointwise (λ (p q : NodeRef). nat_eq p.0 q.0) a b) h in
+    let number = eqb-true x.0 y.0 parts.0 in
+    λ i. record { 0 = number i } ∷ same-nodes a b parts.1 i

@@ -29,13 +29,14 @@ use Rattle.plan_compiler.specs.CheapSelections.{is_cheap}
 use Rattle.plan_compiler.specs.Lexicon.{lexicon}
 use Rattle.plan_runs.specs.Judgement.{Judgement}
 use Rattle.plan_runs.specs.RunMeaning.{RunMeaning}
+use Rattle.plan_runs.specs.RunPrice.{price_at}
 use Rattle.kept_plans.specs.PlanOf.{PlanOf}
 use Rattle.tokenizer.proofs.PartsLemmas.{words-tokens}
 use Rattle.tokenizer.specs.Tokens.{tokens}
 use Rattle.session_state.specs.IgnoredText.{tokens_left}
 use Rattle.session_state.specs.PathPrices.{are_cheap, element_price, words_of as element_words}
 use Rattle.session_state.specs.PlannedPaths.{is_meant, meant, run_meant, run_over, run_price}
-use Rattle.session_state.specs.SelectionTests.{asked_of, is_there, may_ask, span_among, span_at, AreOver, AreOverEach}
+use Rattle.session_state.specs.SelectionTests.{asked_of, is_there, may_ask, span_among, span_at, where_cheap, AreOver, AreOverEach}
 use Rattle.collections.specs.Indexed.{FollowsEach}
 use Rattle.session_state.proofs.TextLemmas.{nothing-ignored, tokens-at-span}
 
@@ -209,6 +210,22 @@ module _ (abbreviations : List (List ℕ)) (version : List indexed.Numbered) (do
   span-there s among = record { first = omega arith; order = omega arith; last = span-inside s among }
 
 -- ---- what is said of the tokens at each span is said of each node
+
+-- what is spent within the price of a run is spent within that of the node
+pub spent-within : (abbreviations : List (List ℕ)) (runs : List RunMeaning) (k : ℕ) (run : RunMeaning) (doc : ℕ) (root : Numbered) (r : NodeRef) (n : Node root r) (at : Span) (old new : ℕ)
+    → k < length runs → get_or runs k run ≡ run → Follows abbreviations run.version doc root → part (tokens abbreviations (plain root)) at ≡ tokens abbreviations (plain n.spot.stand.node)
+    → (is_cheap (lexicon run.lists) run.form ≡ true → new ≤ old + price_at run doc at)
+    → where_cheap runs new ≤ where_cheap runs old + where_cheap runs (element_price (map run_price runs) k (element_of root r))
+spent-within abbreviations runs k run doc root r n at old new less is follows there paid =
+    let words = words-at-span abbreviations run.version doc root follows at (tokens abbreviations (plain n.spot.stand.node)) there in
+    let price : price_at run doc at ≡ element_price (map run_price runs) k (element_of root r) =
+    ap (run_price run) (sym words ∙ words-tokens abbreviations (plain n.spot.stand.node))
+    ∙ (ap (λ (e : Element). run_price run (element_words e)) (sym n.is) ∙ sym (priced-at runs k run (element_of root r) less is)) in
+    let own = element_price (map run_price runs) k (element_of root r) in
+    elim (are_cheap (map run_meant runs)) as (λ b. are_cheap (map run_meant runs) ≡ b → cond b new 0 ≤ cond b old 0 + cond b own 0) [
+      | true ↦ λ h. subst (λ n. new ≤ old + n) price (paid (cheap-at runs k run h less is))
+      | false ↦ λ h. omega arith
+    ] refl
 
 pub skipped : (says : Judgement) (abbreviations : List (List ℕ)) (runs : List RunMeaning) (root : Numbered) (k : ℕ) (run : RunMeaning) (doc from to : ℕ) → get_or runs k run ≡ run
     → AreOver abbreviations runs (doc, root)

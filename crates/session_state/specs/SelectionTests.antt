@@ -1,6 +1,10 @@
 -- What is said of the nodes of a document, by runs and the judge that is asked with them.
-use Rattle.std.specs.Prelude.{ℕ, ◌==◌, Bool, ◌&&◌, nat_lt, List, [], ◌∷◌, length, map, All, cond, if◌then◌else◌}
+use Rattle.std.specs.Prelude.{◌≡◌, ℕ, ◌==◌, Bool, true, ◌&&◌, nat_lt, List, [], ◌∷◌, length, map, All, cond, if◌then◌else◌, Option}
 use Rattle.std.specs.List.{list_any, AllByRecursion}
+use Rattle.std.specs.Option.{ForSome}
+use Rattle.ignore_view.specs.Holes.{whole_document}
+use Rattle.index_meaning.specs.Documents.{document_at, has_document}
+use Rattle.index_phrases.specs.Tokens.{span_tokens}
 use Rattle.index_updates.specs.Follows.{Follows}
 use Rattle.ordered_tree.specs.Numbered.{Numbered}
 use Rattle.ordered_tree.specs.Stands.{span}
@@ -10,8 +14,10 @@ use Rattle.path_nodes.specs.References.{Spot, element_of, spot_reference, spots_
 use Rattle.path_nodes.specs.Says.{Meaning}
 use Rattle.plan_runs.specs.Judgement.{Judgement}
 use Rattle.plan_runs.specs.RunMeaning.{RunMeaning}
+use Rattle.session_state.specs.IgnoredText.{tokens_left}
 use Rattle.session_state.specs.PathPrices.{are_cheap, element_price}
 use Rattle.session_state.specs.PlannedPaths.{is_meant, run_meant, run_price}
+use Rattle.session_state.specs.declared.text_left.LeftView.{LeftView}
 
 -- whether a reference names a node of a document
 abbrev pub is_there : Numbered → NodeRef → Bool
@@ -50,3 +56,13 @@ AreOver abbreviations runs t = All (λ run. Follows abbreviations run.version t.
 
 abbrev pub AreOverEach : List (List ℕ) → List RunMeaning → List (ℕ × Numbered) → Type 0
 AreOverEach abbreviations runs trees = AllByRecursion (AreOver abbreviations runs) trees
+
+-- A view of what is left of a node without ignored elements has the tokens of that, and so has what is kept, if something is.
+abbrev pub IsLeft : List (List ℕ) → ℕ → Numbered → LeftView → Type 0
+IsLeft abbreviations doc root left =
+    (has_document doc left.view ≡ true)
+    × (span_tokens (whole_document (document_at doc left.view)) (document_at doc left.view)
+    ≡ tokens_left abbreviations (map (element_of root) left.holes) (element_of root left.node))
+
+abbrev pub IsKept : List (List ℕ) → ℕ → Numbered → Option LeftView → Type 0
+IsKept abbreviations doc root kept = ForSome kept (IsLeft abbreviations doc root)

@@ -2,9 +2,9 @@
 
 ghost use Rattle.std.specs.Prelude.{◌≡◌, ◌≤◌, ℕ, List};
 ghost use Rattle.plan_runs.specs.RunMeaning.{RunMeaning};
-ghost use Rattle.session_state.specs.SelectionTests.{AreOver};
+ghost use Rattle.session_state.specs.SelectionTests.{AreOver, IsKept};
 
-use crate::text_left::{judge_left, left_of, spans_of};
+use crate::text_left::{LeftView, judge_left, left_without};
 use ft_base::{DocId, Memory, Steps};
 use ordered_tree::{DocTree, NodeRef};
 use path_nodes::{HoleTest, Nodes, TextTest};
@@ -47,7 +47,7 @@ impl Loan for Brand {
 
 /// Asks a judge, with the runs of a path's selections, each by its number, of the nodes of a document.
 #[derive(Drop)]
-pub(crate) struct SelectionTest<'j, 't, 'r, 'v, 'm, J: Judge, B: Loan, M: Ledger> {
+pub(crate) struct SelectionTest<'j, 't, 'r, 'v, 'm, 'k, J: Judge, B: Loan, M: Ledger> {
     pub(crate) alloc: Global,
     pub(crate) judge: &'j J,
     /// The document's number in the version of the runs
@@ -55,14 +55,17 @@ pub(crate) struct SelectionTest<'j, 't, 'r, 'v, 'm, J: Judge, B: Loan, M: Ledger
     pub(crate) tree: &'t DocTree,
     pub(crate) runs: &'r mut [Run<'v>],
     pub(crate) moves: &'m mut Steps<M>,
+    /// What is left of the node that was asked without others last
+    pub(crate) left: &'k mut Option<LeftView>,
     pub(crate) loan: PhantomData<B>,
     ghost over: { AreOver B.abbreviations B.runs (doc.0, tree.now.root) },
     ghost same: { runs.now ≡ B.runs },
     ghost shifted: { B.moves ≤ moves.now },
+    ghost kept: { IsKept B.abbreviations doc.0 tree.now.root left.now },
 }
 
-impl<'j, 't, 'r, 'v, 'm, J: Judge, B: Loan, M: Ledger> TextTest
-    for SelectionTest<'j, 't, 'r, 'v, 'm, J, B, M> {
+impl<'j, 't, 'r, 'v, 'm, 'k, J: Judge, B: Loan, M: Ledger> TextTest
+    for SelectionTest<'j, 't, 'r, 'v, 'm, 'k, J, B, M> {
     ghost use Rattle.session_state.specs.SelectionTests.{asked_of, where_cheap};
 
     ghost meaning = { λ test. asked_of J.says B.abbreviations B.runs test.tree.now.root test.runs.ghost_name test.moves.ghost_name };
@@ -85,8 +88,8 @@ impl<'j, 't, 'r, 'v, 'm, J: Judge, B: Loan, M: Ledger> TextTest
     }
 }
 
-impl<'j, 't, 'r, 'v, 'm, J: Judge, B: Loan, M: Ledger> HoleTest
-    for SelectionTest<'j, 't, 'r, 'v, 'm, J, B, M> {
+impl<'j, 't, 'r, 'v, 'm, 'k, J: Judge, B: Loan, M: Ledger> HoleTest
+    for SelectionTest<'j, 't, 'r, 'v, 'm, 'k, J, B, M> {
     fn contains_without(
         &mut self,
         selection: usize,
@@ -97,15 +100,19 @@ impl<'j, 't, 'r, 'v, 'm, J: Judge, B: Loan, M: Ledger> HoleTest
             return self.contains(selection, node);
         }
         let part = self.tree.span_of(node);
-        let spans = spans_of(self.alloc, self.tree, holes)?;
         let runs = &mut *self.runs;
         let run = &mut runs[selection];
-        let view = left_of::<Brand>(
+        if self.judge.lacks(run, self.doc, part, self.moves) {
+            return Ok(false);
+        }
+        let left = left_without::<B, Brand>(
             self.alloc,
             run.version(),
             self.doc,
-            part,
-            &spans,
+            self.tree,
+            self.left,
+            node,
+            holes,
             Blank::new(1),
         )?;
         let judged = judge_left::<J, Brand>(
@@ -113,10 +120,10 @@ impl<'j, 't, 'r, 'v, 'm, J: Judge, B: Loan, M: Ledger> HoleTest
             self.judge,
             run,
             self.doc,
-            &view,
+            &left.view,
             Blank::new(1),
         );
-        drop(view);
+        *self.left = Some(left);
         judged
     }
 }

@@ -218,13 +218,15 @@ fn select_with<J: Judge, B: Loan, M: Ledger>(
     // The root is an element, as the clauses of `root` say.
     let tree = document.tree();
     let _root = tree.root();
-    let mut test = SelectionTest::<'_, '_, '_, '_, '_, J, B, M> {
+    let mut left = None;
+    let mut test = SelectionTest::<'_, '_, '_, '_, '_, '_, J, B, M> {
         alloc: path.alloc,
         judge,
         doc: document.doc(),
         tree,
         runs,
         moves,
+        left: &mut left,
         loan: PhantomData,
     };
     nodes_without(path.alloc, path.steps, tree, &mut test)

@@ -1,5 +1,5 @@
 -- The node is there, its span is that of its words in the document, and the judge is asked with its run.
-use Rattle.std.proofs.Common.{◌≡◌, ◌∙◌, refl, true, false, cond, sym, ap, subst, ◌≤◌, ◌+◌, get_or, map, arith}
+use Rattle.std.proofs.Common.{◌≡◌, ◌∙◌, sym, ap, subst, ◌≤◌, ◌+◌, get_or, arith}
 use Rattle.ft_base.specs.declared.span.Span.{Span}
 use Rattle.index_meaning.specs.Documents.{document_at, token_count}
 use Rattle.index_phrases.specs.Tokens.{IsSpan}
@@ -7,12 +7,8 @@ use Rattle.ordered_tree.specs.Numbered.{plain}
 use Rattle.path_meaning.specs.Elements.{Element}
 use Rattle.path_nodes.specs.References.{element_of}
 use Rattle.path_nodes.proofs.SpotLemmas.{spot-stand}
-use Rattle.plan_runs.specs.RunPrice.{price_at}
-use Rattle.tokenizer.proofs.PartsLemmas.{words-tokens}
 use Rattle.tokenizer.specs.Tokens.{tokens}
-use Rattle.session_state.specs.PathPrices.{are_cheap, element_price, words_of}
-use Rattle.session_state.specs.PlannedPaths.{run_meant, run_price}
-use Rattle.session_state.proofs.SelectionTestLemmas.{asked-node, asked-run, cheap-at, met-at, over-at, priced-at, reference-there, run-lent, span-inside, span-there, words-at-span}
+use Rattle.session_state.proofs.SelectionTestLemmas.{asked-node, asked-run, met-at, over-at, reference-there, run-lent, spent-within, span-inside, span-there}
 use Rattle.session_state.proofs.TextLemmas.{tokens-at-span}
 use Rattle.session_state.proofs.asked_runs.SelectionTestTextTest.contains.Goals as goal
 
@@ -78,18 +74,9 @@ returns-clause-cost g c =
     let k = c.args.selection in
     let run = get_or c.args.self.now.runs.now k c.index-runs-selection.result in
     let doc = c.args.self.now.doc.0 in
-    let n = asked-node runs root k c.args.node c.requires in
-    let among = spot-stand root n.spot n.among in
     let less = asked-run runs root k c.args.node c.requires in
     let is : get_or runs k run ≡ run = run-lent runs c.args.self.now.runs.now k c.index-runs-selection.result c.args.self.now.same c.index-runs-selection.is in
     let follows = over-at abbreviations runs k run (doc, root) less is c.args.self.now.over in
-    let ts = tokens abbreviations (plain n.spot.stand.node) in
-    let words = words-at-span abbreviations run.version doc root follows c.span_of-span.result ts (c.span_of-span.ensures.tokens abbreviations n.spot.stand among n.refers) in
-    let price : price_at run doc c.span_of-span.result ≡ element_price (map run_price runs) k (element_of root c.args.node) =
-    ap (run_price run) (sym words ∙ words-tokens abbreviations (plain n.spot.stand.node))
-    ∙ (ap (λ (e : Element). run_price run (words_of e)) (sym n.is) ∙ sym (priced-at runs k run (element_of root c.args.node) less is)) in
-    let own = element_price (map run_price runs) k (element_of root c.args.node) in
-    elim (are_cheap (map run_meant runs)) as (λ b. are_cheap (map run_meant runs) ≡ b → cond b c.judge.new.moves 0 ≤ cond b c.args.self.now.moves.now 0 + cond b own 0) [
-      | true ↦ λ h. subst (λ n. c.judge.new.moves ≤ c.args.self.now.moves.now + n) price (c.judge.ensures.price (cheap-at runs k run h less is))
-      | false ↦ λ h. omega arith
-    ] refl
+    let n = asked-node runs root k c.args.node c.requires in
+    let there = c.span_of-span.ensures.tokens abbreviations n.spot.stand (spot-stand root n.spot n.among) n.refers in
+    spent-within abbreviations runs k run doc root c.args.node n c.span_of-span.result c.args.self.now.moves.now c.judge.new.moves less is follows there c.judge.ensures.price
