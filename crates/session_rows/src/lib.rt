@@ -74,6 +74,8 @@ mod sessions;
 #[cfg(test)]
 mod shown;
 #[cfg(test)]
+mod shown_refusals;
+#[cfg(test)]
 mod watches;
 #[cfg(test)]
 mod words_found;
