@@ -1,8 +1,8 @@
 //! Or, And and Not of Matches, in their order, by computation.
 
-ghost use Rattle.std.specs.Prelude.{◌≡◌, ◌∷◌, []};
+ghost use Rattle.std.specs.Prelude.{◌≡◌, ◌==◌, ◌∷◌, [], true, false};
 ghost use Rattle.ft_base.specs.HitExamples.{word};
-ghost use Rattle.all_matches.specs.Boolean.{ft_or, ft_and, ft_not, with_include, with_exclude};
+ghost use Rattle.all_matches.specs.Boolean.{ft_or, ft_and, ft_not, with_include, with_exclude, survives};
 ghost use Rattle.all_matches.specs.Hits.{match_of_hit};
 ghost use Rattle.all_matches.specs.Times.{at_least};
 
@@ -27,4 +27,11 @@ pub fn parts_turned_about()
 pub fn choices_of_matches()
     ensures at_least_one { at_least 1 (match_of_hit (word 1) ∷ match_of_hit (word 2) ∷ [])
         ≡ record { includes = word 1 ∷ word 2 ∷ []; excludes = [] } ∷ match_of_hit (word 1) ∷ match_of_hit (word 2) ∷ [] }
+{}
+
+/// A Match survives a test that keeps none of its excludes, whatever it says of the includes.
+pub fn matches_that_survive()
+    ensures without_excludes { survives (λ hit. true) (match_of_hit (word 1)) ≡ true }
+    ensures an_include_alone_is_kept { survives (λ hit. hit.from == 1) (record { includes = word 1 ∷ []; excludes = word 2 ∷ [] }) ≡ true }
+    ensures one_of_two_excludes_is_kept { survives (λ hit. hit.from == 2) (record { includes = word 1 ∷ []; excludes = word 3 ∷ word 2 ∷ [] }) ≡ false }
 {}

@@ -34,9 +34,12 @@ pub fn counts_by_mode()
     ensures any { joined_count M.Any (2 ∷ 3 ∷ []) ≡ 5 }
     ensures any_word { joined_count M.AnyWord (2 ∷ 3 ∷ []) ≡ 5 }
     ensures all { joined_count M.All (2 ∷ 3 ∷ []) ≡ 6 }
+    ensures all_of_three { joined_count M.All (2 ∷ 3 ∷ 4 ∷ []) ≡ 24 }
     ensures all_words { joined_count M.AllWords (2 ∷ 3 ∷ []) ≡ 6 }
     ensures one_phrase { joined_count M.Phrase (2 ∷ []) ≡ 2 }
     ensures of_words { value_count plain no_options record { values = codes "a b" ∷ codes "a" ∷ []; mode = M.All; times = None; options = no_options }
+        (text (codes "a b a")) ≡ 2 }
+    ensures of_some_words { value_count plain no_options record { values = codes "" ∷ codes "a" ∷ []; mode = M.AllWords; times = None; options = no_options }
         (text (codes "a b a")) ≡ 2 }
     ensures of_no_words { value_count plain no_options record { values = codes "" ∷ []; mode = M.AllWords; times = None; options = no_options }
         (text (codes "a b a")) ≡ 0 }

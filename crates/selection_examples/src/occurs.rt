@@ -26,6 +26,10 @@ pub fn numbers_in_ranges()
     ensures between { number_in_range (R.FromTo 1 3) 2 ≡ true }
     ensures below_the_lower_end { number_in_range (R.FromTo 1 3) 0 ≡ false }
     ensures above_the_upper_end { number_in_range (R.FromTo 1 3) 4 ≡ false }
+    ensures the_least { number_in_range (R.AtLeast 2) 2 ≡ true }
+    ensures the_most { number_in_range (R.AtMost 2) 2 ≡ true }
+    ensures the_lower_end { number_in_range (R.FromTo 1 3) 1 ≡ true }
+    ensures the_upper_end { number_in_range (R.FromTo 1 3) 3 ≡ true }
     ensures no_occurrence { enough None 0 ≡ false }
     ensures one_occurrence { enough None 1 ≡ true }
 {}

@@ -4,7 +4,7 @@
 ghost use Rattle.std.specs.Prelude.{◌≡◌, true, false, codes};
 ghost use Rattle.ft_base.specs.Selection.{none, more};
 ghost use Rattle.all_matches.specs.Compositional.{some_form, each_form_passes};
-ghost use Rattle.all_matches.specs.Examples.{plain, text, word_a, word_b};
+ghost use Rattle.all_matches.specs.Examples.{plain, text, two_and, two_or, word_a, word_b};
 ghost use Rattle.all_matches.specs.Meaning.{sat};
 
 /// Some selection of a list passes a test: here, whether the text `a` satisfies it.
@@ -21,4 +21,10 @@ pub fn all_selections()
     ensures the_first_alone { each_form_passes (λ form. sat plain form (text (codes "a"))) (more word_a (more word_b none)) ≡ false }
     ensures the_last_alone { each_form_passes (λ form. sat plain form (text (codes "a"))) (more word_b (more word_a none)) ≡ false }
     ensures both { each_form_passes (λ form. sat plain form (text (codes "a"))) (more word_a (more word_a none)) ≡ true }
+{}
+
+/// A text satisfies one of several selections, or each.
+pub fn one_or_each()
+    ensures one_is_enough { sat plain (two_or word_a word_b) (text (codes "a")) ≡ true }
+    ensures one_is_too_few { sat plain (two_and word_a word_b) (text (codes "a")) ≡ false }
 {}

@@ -45,6 +45,13 @@ pub fn matches_of_ways()
         ≡ record { includes = word 1 ∷ []; excludes = word 2 ∷ [] } }
 {}
 
+/// The Matches of one side stand before those of the other, or each is joined with each.
+pub fn matches_of_operators()
+    ensures of_either { matches_of (span 1 4) (either (phrase (word 2 ∷ [])) (phrase (word 1 ∷ []))) ≡ match_of_hit (word 2) ∷ match_of_hit (word 1) ∷ [] }
+    ensures of_both { matches_of (span 1 4) (together (phrase (word 2 ∷ [])) (phrase (word 1 ∷ [])))
+        ≡ record { includes = word 2 ∷ word 1 ∷ []; excludes = [] } ∷ [] }
+{}
+
 /// A way is clean where of each Match of a negated selection some include isn't kept.
 pub fn clean_ways()
     ensures a_hit { clean_under (λ hit. true) (one_hit (word 1)) ≡ true }
