@@ -48,6 +48,24 @@ def test_exit_statuses_are_greps(ask: Ask, folder: Path) -> None:
     assert ask(folder / "absent.xml", "--query", STORM).returncode == 2
 
 
+def test_a_document_that_isnt_there_is_told_with_those_that_are(ask: Ask, folder: Path) -> None:
+    for name, there in [
+        ("voyage.xml", "close to it there is voyages.xml"),
+        ("latin", "close to it there is more/latin.xml"),
+        ("letters", "there is garden.xml, more/latin.xml, voyages.xml"),
+    ]:
+        ran = ask(folder, "--query", f'doc("{name}")//p')
+        assert ran.returncode == 2 and ran.stderr.splitlines()[-1] == f"ask: there is no document {name}; {there}"
+    for number in range(4):
+        shutil.copy(folder / "voyages.xml", folder / "more" / f"v{number}.xml")
+    try:
+        ran = ask(folder / "more", "--query", 'doc("letters")//p')
+    finally:
+        for number in range(4):
+            (folder / "more" / f"v{number}.xml").unlink()
+    assert ran.stderr.splitlines()[-1] == "ask: there is no document letters; there is latin.xml, v0.xml, v1.xml and 2 more"
+
+
 def test_files_that_cant_be_taken_are_named_and_the_rest_goes_on(ask: Ask, folder: Path) -> None:
     ran = ask(folder, "--query", 'collection()//*[. contains text "café" ftor "and sails" ftor "night"]', "--format", "paths")
     assert f"ask: {folder}/more/empty.xml:1: the file is empty" in ran.stderr

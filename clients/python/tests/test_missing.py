@@ -14,7 +14,7 @@ from ftq_ask.collection import Collection  # noqa: E402
 from ftq_ask.missing import TOGETHER, all_hints  # noqa: E402
 from ftq_client import Session  # noqa: E402
 
-TEXT = """<d><p>England’s ships and the King's e-mail. Colour, colours, sailing, registered; to co-operate is naïve</p>
+TEXT = """<d n="1"><p>England’s ships and the King's e-mail. Colour, colours, sailing, registered; to co-operate is naïve</p>
 <p>Colour it don't</p></d>"""
 
 
@@ -66,6 +66,31 @@ def test_only_what_is_lacking_is_named(asked: Callable[[str], list[str]]) -> Non
     assert asked('collection()//q[. contains text "storm"]') == ["no document has an element q"]
     assert asked('collection()//p[. contains text "regi.* quar.+" using wildcards]') == ["no document has a word that fits the pattern quar.+"]
     assert asked("collection()/d[not(p)]") == [TOGETHER]
+    assert asked('collection()//p[. contains text "storm" ftand "ships" ftand ftnot ("quartz" ftor "glas")]') == [TOGETHER]
+    assert asked('collection()//p[. contains text "storm" and not(. contains text "quartz")][2]') == [TOGETHER]
+
+
+def test_a_word_that_is_there_in_another_form_is_named_so(asked: Callable[[str], list[str]]) -> None:
+    for selection, using, there in [
+        ('"STORM" using case sensitive', "case sensitive", "storm"),
+        ('("england\'s" ftand "storm") using case sensitive', "case sensitive", "England’s"),
+        ('"king\'s" using lowercase', "lowercase", "King's"),
+        ('"naive" using diacritics sensitive ftand "co"', "diacritics sensitive", "naïve"),
+        ('"colours" using uppercase using diacritics sensitive', "diacritics sensitive using uppercase", "colours"),
+    ]:
+        word = selection.partition('"')[2].partition('"')[0]
+        told = f"no document has the word {word} as it is asked for using {using}; without that there is {there}"
+        assert told in asked(f"collection()//p[. contains text {selection}]"), selection
+    assert asked('collection()//p[. contains text "Storm" using case sensitive ftor "quartz" using case sensitive]')[1] == "no document has the word quartz"
+    assert asked('collection()//p[. contains text "storm" using case sensitive ftand "COLOUR"]') == [TOGETHER]
+
+
+def test_a_value_that_no_element_has_is_named(asked: Callable[[str], list[str]]) -> None:
+    assert asked('collection()/d[@n = "1"]') == []
+    assert asked('collection()/d[@n = "2"]') == ['no document has an element with @n = "2"']
+    assert asked('doc("other.xml")/d[@n = "1" and not(@n = "3")]') == ['doc("other.xml") doesn\'t have an element with @n = "1"']
+    assert asked('collection()/d[@m = "2"]') == ["no document has an attribute m"]
+    assert asked('collection()//p[@n = "1"]') == [TOGETHER]
 
 
 def test_distances_without_the_library(monkeypatch: pytest.MonkeyPatch) -> None:

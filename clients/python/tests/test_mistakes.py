@@ -10,7 +10,7 @@ from ftq_ask.collection import Collection  # noqa: E402
 from ftq_ask.hints import hints  # noqa: E402
 from ftq_ask.missing import all_hints  # noqa: E402
 from ftq_ask.mistakes import FAULTS, MISTAKES, Advice, Mistake, advice_for  # noqa: E402
-from ftq_ask.paths import asked_strings, missing_end, names_in, path_in, quoted, with_apostrophes  # noqa: E402
+from ftq_ask.paths import asked_strings, asked_texts, asked_values, missing_end, names_in, path_in, quoted, with_apostrophes  # noqa: E402
 from ftq_ask.reading import Vocabulary  # noqa: E402
 from ftq_client import BadCommand, NoSuchDocument, QueryFault, Session  # noqa: E402
 
@@ -192,18 +192,42 @@ def test_each_fault_of_the_program_has_words() -> None:
     ],
 )
 def test_hints(path: str, found: int, said: str) -> None:
-    told = hints(path, found, KNOWN, has_stems=False)
+    told = hints(path, found, KNOWN, False, lambda written: True)
     assert any(said in it for it in told), told
     assert sum("beside each other" in it for it in told) <= 1
 
 
-def test_what_is_hinted_to_write_is_read(session: Session) -> None:
+def hinted(path: str, session: Session) -> list[str]:
+    """The hints for a path that has found nothing."""
     fault_of = Collection(session).fault_of
+    assert fault_of(path) is None
+    return hints(path, 0, KNOWN, False, lambda written: fault_of(written) is None)
+
+
+def test_what_is_hinted_to_write_is_read(session: Session) -> None:
     for text in ("storm OR dark", "storm|dark", "R&amp;D and more", "storm NOT \"dark", "a 'b' && \"c"):
         path = f"collection()//p[. contains text {quoted(text)}]"
-        (told,) = hints(path, 0, KNOWN, has_stems=False)
+        (told,) = hinted(path, session)
         written = told.partition("write ")[2].partition(" for ")[0]
-        assert fault_of(path) is None and fault_of(path.replace(quoted(text), written)) is None, told
+        assert Collection(session).fault_of(path.replace(quoted(text), written)) is None, told
+
+
+@pytest.mark.parametrize(
+    ("text", "said"),
+    [
+        ("x.{a}", '"x.{a}" is read as plain words; a pattern wants using wildcards, and is none as this is written'),
+        ('a "sto*"', """'a "sto*"' is read as plain words; a pattern wants: 'a "sto.*"' using wildcards"""),
+        ("a&#10;b", "a string is no XML, and has no references to characters"),
+        ("|".join(f"w{it}" for it in range(65)), " are asked for beside each other"),
+    ],
+)
+def test_no_hint_has_what_the_program_doesnt_read(text: str, said: str, session: Session) -> None:
+    assert hinted(f"collection()//p[. contains text {quoted(text)}]", session)[0].endswith(said)
+
+
+def test_words_elsewhere_are_asked_for_with_their_options(session: Session) -> None:
+    (told,) = hinted('collection()//p[. contains text ("heavy sto.*" using wildcards ftand "x") using case sensitive]', session)
+    assert told.endswith('; "heavy sto.*" all words using case sensitive using wildcards asks for them anywhere')
 
 
 @pytest.mark.parametrize(
@@ -220,7 +244,7 @@ def test_what_is_hinted_to_write_is_read(session: Session) -> None:
     ],
 )
 def test_no_hint_where_none_is_due(path: str) -> None:
-    assert hints(path, 1, KNOWN, has_stems=False) == []
+    assert hints(path, 1, KNOWN, False, lambda written: False) == []
 
 
 def test_what_is_told_of_a_path() -> None:
@@ -232,7 +256,30 @@ def test_what_is_told_of_a_path() -> None:
     assert [it.name for it in names_in(ignoring)] == ["a", "b", "d", "e", "n", "f", "content", "h", "contains"]
     assert missing_end('a[("b') == '")]'
     assert missing_end("a[b]") == ""
-    assert asked_strings('a[. contains text "b" ftand ftnot "c" ftor "d"]', negated=False) == ["b", "d"]
+
+
+@pytest.mark.parametrize(
+    ("selection", "told"),
+    [
+        ('"a" using case sensitive ftand "b"', [("a", ("case sensitive",)), ("b", ())]),
+        ('("a" ftor {"b", "c"} all words using stemming) using wildcards', [("a", ("wildcards",)), ("b", ("stemming", "wildcards")), ("c", ("stemming", "wildcards"))]),
+        ('("a" using case insensitive ftand "b") using lowercase', [("a", ()), ("b", ("lowercase",))]),
+        ('"a" using stop words ("x", "y") using uppercase same sentence', [("a", ("uppercase",))]),
+        ('"a" occurs at least 2 times using no stemming', [("a", ())]),
+        ('"a" ftand ftnot ("b" ftor "c") ftand ftnot {"d", "e"} any ftand "f"', [("a", ()), ("f", ())]),
+        ('"a" not in "a b" ftand "c" occurs at most 2 times ftand {"d"} any word occurs exactly 0 times', [("a", ())]),
+        ('"a" without content b[. contains text "c"] | d[@k = "v"] and . contains text "e"', [("a", ()), ("e", ())]),
+        ('"a" at start or not(. contains text "b" and @n = "x")', [("a", ())]),
+    ],
+)
+def test_which_words_have_to_be_there_and_how(selection: str, told: list[tuple[str, tuple[str, ...]]], session: Session) -> None:
+    path = f"collection()//p[. contains text {selection}]"
+    assert Collection(session).fault_of(path) is None
+    assert [(it.value, it.options) for it in asked_texts(path) if it.needed] == told
+
+
+def test_which_values_have_to_be_there() -> None:
+    assert asked_values('collection()//a[@b = "1" and not(@c = "2")][. contains text "x" without content d[@e = "3"] or @f = \'4\']') == [("b", "1"), ("f", "4")]
 
 
 @pytest.mark.parametrize(
@@ -288,5 +335,8 @@ def test_both_apostrophes_are_found_and_it_is_said_once(session: Session) -> Non
     with pytest.raises(QueryFault) as caught:
         collection.query(path[:-1] + " ftand")
     assert caught.value.place == len(path) + 5
+    # Where a choice of both would be more phrases than there may be, it is asked as it is typed, and nothing else is said.
+    collection.told_of_apostrophes = False
+    assert all_hints(many, 1, collection) == []
     collection.as_typed = True
     assert [it.steps[-1].number for it in collection.query(path)] == [1]

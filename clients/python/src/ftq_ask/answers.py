@@ -3,6 +3,7 @@
 from __future__ import annotations
 
 import csv
+import difflib
 import json
 from dataclasses import dataclass
 from typing import Any, Callable, Iterable
@@ -234,17 +235,15 @@ def advice_for_selection(selection: str, fault: Fault, fault_of: Callable[[str],
     return Advice(advice.why, inside) if advice.write == f"{_FRONT}{inside}]" else None
 
 
-def say_refusal(
-    console: Console, path: str, refusal: Refusal, fault_of: Callable[[str], Fault | None], prefix: str = "", advise: Adviser = advice_for
-) -> None:
+def say_refusal(console: Console, path: str, refusal: Refusal, collection: Collection, prefix: str = "", advise: Adviser = advice_for) -> None:
     """Writes what a refusal says. A fault of a path shows the path, a caret under its place, and what to write instead: a path in which the
-    program finds no fault, as `fault_of` tells. `advise` says what that is; of a selection by itself it is `advice_for_selection`."""
+    program finds no fault. `advise` says what that is; of a selection by itself it is `advice_for_selection`."""
     if isinstance(refusal, QueryFault):
         column = refusal.column(path)
         say(console, Text(f"{prefix}{refusal.kind}: {FAULTS.get(refusal.kind, refusal.reply)}", "red"))
         say(console, f"    {path}")
         say(console, Text("    " + " " * cell_len(path[:column]) + "^", "red"))
-        advice = advise(path, (refusal.kind, column), fault_of)
+        advice = advise(path, (refusal.kind, column), collection.fault_of)
         if advice:
             say(console, Text(f"    {advice.why}" + ("; write:" if advice.write else ""), "yellow"))
             if advice.write:
@@ -252,7 +251,7 @@ def say_refusal(
     elif refusal.number == 1 and not path.strip():
         say(console, Text(f'{prefix}the question is empty: a question is a path, such as collection()//p[. contains text "storm"]', "red"))
     else:
-        say(console, Text(prefix + in_words(refusal), "red"))
+        say(console, Text(prefix + in_words(refusal, collection.sources), "red"))
 
 
 _WORDS: dict[int, Callable[[Refusal], str]] = {
@@ -260,7 +259,7 @@ _WORDS: dict[int, Callable[[Refusal], str]] = {
     2: lambda it: "a name has 1 to 64 characters, none of them a control character; it stands between quotes where one isn't a letter, a digit, ., _ or -",
     3: lambda it: f"there is one called {it.name}: drop it first (a mark by unmark, a watch by unwatch), or take another name",
     4: lambda it: f"no document, no mark and no watch is called {it.name}",
-    8: lambda it: f"there is no document {it.name}; files lists those that there are",
+    8: lambda it: f"there is no document {it.name}",
     15: lambda it: (
         "why an element is found is shown where the last predicate of the path's last step is . contains text alone, which ignores nothing, without "
         "occurs under a filter and without ftnot or occurs inside ftnot"
@@ -269,6 +268,23 @@ _WORDS: dict[int, Callable[[Refusal], str]] = {
 }
 
 
-def in_words(refusal: Refusal) -> str:
+def in_words(refusal: Refusal, documents: Iterable[str] = ()) -> str:
+    """What a refusal says, in words of a user; of a document that isn't there also which there are."""
     say_it = _WORDS.get(refusal.number)
-    return say_it(refusal) if say_it else refusal.reply.removeprefix("! ").lstrip("0123456789 ")
+    said = say_it(refusal) if say_it else refusal.reply.removeprefix("! ").lstrip("0123456789 ")
+    return said + _others(refusal.name, list(documents)) if refusal.number == 8 and refusal.name is not None else said
+
+
+SOME = 3
+"""How many documents are named in the place of one that isn't there."""
+
+
+def _others(name: str, documents: list[str]) -> str:
+    """Which documents there are: those whose names are alike, in whichever folder and with whichever ending, or else the first ones."""
+    last = name.rpartition("/")[2]
+    alike = [it for it in documents if it.rpartition("/")[2] in (last, f"{last}.xml") or it.rpartition("/")[2].rpartition(".")[0] == last]
+    alike = (alike + difflib.get_close_matches(name, [it for it in documents if it not in alike], n=SOME, cutoff=0.75))[:SOME]
+    if alike:
+        return f"; close to it there is {', '.join(alike)}"
+    further = len(documents) - SOME
+    return f"; there is {', '.join(documents[:SOME])}" + (f" and {further:,} more" if further > 0 else "") if documents else "; there is none"

@@ -150,7 +150,7 @@ def answer_all(collection: Collection, options: argparse.Namespace, errors: Cons
         try:
             found = collection.query(path)
         except Refusal as refusal:
-            answers.say_refusal(errors, path, refusal, collection.fault_of, "ask: ")
+            answers.say_refusal(errors, path, refusal, collection, "ask: ")
             faulty = True
             continue
         except TimedOut as late:

@@ -126,7 +126,7 @@ class Following:
                 self._collection.reply_to(f"watch {name} ", path)
                 count = len(self._collection.query(path))
             except Refusal as refusal:
-                answers.say_refusal(self._errors, path, refusal, self._collection.fault_of, "ask: ")
+                answers.say_refusal(self._errors, path, refusal, self._collection, "ask: ")
                 return False
             answers.say(self._errors, f"{answers.counted(count)} now: {path}")
             answers.say_hints(self._errors, all_hints(path, count, self._collection))
@@ -160,7 +160,7 @@ class Following:
             changes = self._collection.engine.changes(name)
         except Refusal as refusal:
             if name not in self._refused:
-                answers.say_refusal(self._errors, path, refusal, self._collection.fault_of, "ask: ")
+                answers.say_refusal(self._errors, path, refusal, self._collection, "ask: ")
             self._refused.add(name)
             return
         except TimedOut as late:

@@ -5,9 +5,9 @@ from __future__ import annotations
 import difflib
 import html
 import re
-from typing import Iterator
+from typing import Callable, Iterator
 
-from .paths import Named, asked_strings, is_said, names_in, quoted, symbols, without_strings
+from .paths import AskedText, Named, asked_texts, is_said, names_in, quoted, symbols, without_strings
 from .reading import Vocabulary
 from .words import words_of
 
@@ -28,11 +28,20 @@ _AXES = {
 }
 
 
-def hints(path: str, found: int, vocabulary: Vocabulary, has_stems: bool, lacks_words: bool = False) -> list[str]:
+IsRead = Callable[[str], bool]
+"""Tells whether the program reads a path."""
+
+
+def hints(path: str, found: int, vocabulary: Vocabulary, has_stems: bool, is_read: IsRead, lacks_words: bool = False) -> list[str]:
     """What is likely meant otherwise in a path that was answered with so many elements; `lacks_words` tells that no document has one of its
-    words, so that asking for them elsewhere in the element finds nothing either."""
-    of_nothing = [] if found else _of_nothing(path, vocabulary, lacks_words)
-    return [*_of_names(path, vocabulary), *_of_strings(path), *_of_stems(path, has_stems), *_of_ignored(path), *of_nothing]
+    words, so that asking for them elsewhere in the element finds nothing either. What is said to be written is read by the program before."""
+    of_nothing = [] if found else _of_nothing(path, vocabulary, is_read, lacks_words)
+    return [*_of_names(path, vocabulary), *_of_strings(path, is_read), *_of_stems(path, has_stems), *_of_ignored(path, is_read), *of_nothing]
+
+
+def _selects(selection: str) -> str:
+    """A path that asks for a selection."""
+    return f"collection()/*[. contains text {selection}]"
 
 
 def _of_names(path: str, vocabulary: Vocabulary) -> Iterator[str]:
@@ -57,18 +66,21 @@ def _instead(named: Named, known: dict[str, int]) -> str:
     return f"; did you mean {' or '.join(alike[:3])}?" if alike else ""
 
 
-def _of_strings(path: str) -> Iterator[str]:
-    patterns = is_said(path, "using", "wildcards")
-    for text in asked_strings(path):
-        if not patterns and looks_like_pattern(text):
-            dotted = re.sub(r"(?<!\.)\*", ".*", text)
-            yield f'"{text}" is read as plain words; a pattern wants: "{dotted}" using wildcards'
-        if patterns and re.search(r"(?<!\.)\*", text):
-            yield f'a star stands for itself in a pattern; any characters are .*: "{re.sub(r"(?<![.])[*]", ".*", text)}"'
-        if not any(words_of(text)) and not patterns:
+def _of_strings(path: str, is_read: IsRead) -> Iterator[str]:
+    for it in asked_texts(path):
+        text, plain = it.value, unescaped(it.value)
+        dotted = quoted(re.sub(r"(?<!\.)\*", ".*", text))
+        pattern = f"{dotted} using wildcards"
+        if not it.has_patterns and looks_like_pattern(text):
+            wanted = f": {pattern}" if is_read(_selects(pattern)) else " using wildcards, and is none as this is written"
+            yield f"{quoted(text)} is read as plain words; a pattern wants{wanted}"
+        if it.has_patterns and re.search(r"(?<!\.)\*", text):
+            yield "a star stands for itself in a pattern; any characters are .*" + (f": {dotted}" if is_read(_selects(pattern)) else "")
+        if not any(words_of(text)) and not it.has_patterns:
             yield f"{quoted(text)} has no word, and a string without a word finds nothing"
-        if unescaped(text) != text:
-            yield f"a string is no XML, and has no references to characters; write {quoted(unescaped(text))} for {quoted(text)}"
+        if plain != text:
+            wanted = f"; write {quoted(plain)} for {quoted(text)}" if is_read(_selects(quoted(plain))) else ""
+            yield f"a string is no XML, and has no references to characters{wanted}"
 
 
 def looks_like_pattern(text: str) -> bool:
@@ -94,21 +106,23 @@ _JOINED = re.compile(rf"{_IGNORED}([^\[\]]*?)\s+(or|and)\s+((?:\.//?)?{_NAME})\s
 _ELSEWHERE = re.compile(rf"(?:[\[(]|\band\b|\bor\b)\s*({_NAME})\s+contains\s+text\s[^\[\]]*?{_IGNORED}({_NAME})(?![\w:/])")
 
 
-def _of_ignored(path: str) -> Iterator[str]:
+def _of_ignored(path: str, is_read: IsRead) -> Iterator[str]:
     """Where something is ignored: other paths of it joined as conditions are, or named as if they began elsewhere; or all of it."""
     bare = without_strings(path)
     for told in _JOINED.finditer(bare):
         also = "are found too" if told[2] == "or" else "alone are found"
-        yield f"{told[2]} joins predicates: elements with {told[3]} {also}; what is ignored is divided by |: without content {told[1]} | {told[3]}"
+        divided = f"without content {told[1]} | {told[3]}"
+        if is_read(f"{path[: told.start()]}{divided}{path[told.end() :]}"):
+            yield f"{told[2]} joins predicates: elements with {told[3]} {also}; what is ignored is divided by |: {divided}"
     for told in _ELSEWHERE.finditer(bare):
         inside, name = told[1], told[2]
-        if inside != name:
+        if inside != name and is_read(f"{path[: told.start(2)]}{inside}/{name}{path[told.end(2) :]}"):
             yield f"what is ignored is named from the element before the bracket on, not from {inside}: without content {inside}/{name}, or .//{name}"
     if re.search(rf"{_IGNORED}(?:[^\[\]]*\|)?\s*\.\s*(?:[|\])]|\b(?:and|or)\b)", bare):
         yield "without content . ignores all that is searched"
 
 
-def _of_nothing(path: str, vocabulary: Vocabulary, lacks_words: bool) -> Iterator[str]:
+def _of_nothing(path: str, vocabulary: Vocabulary, is_read: IsRead, lacks_words: bool) -> Iterator[str]:
     """Where nothing was found: a first step that no root has, and a phrase of several words."""
     row = symbols(path)
     first = next((number for number, it in enumerate(row) if it.text in ("/", "//")), None)
@@ -118,22 +132,30 @@ def _of_nothing(path: str, vocabulary: Vocabulary, lacks_words: bool) -> Iterato
             yield f"no document's root is {name}; //{name} finds it at any depth"
     if is_said(path, "all", "words") or is_said(path, "any", "word"):
         return
-    for text in asked_strings(path):
-        if len(list(words_of(text))) > 1 and unescaped(text) == text:
-            told = _of_phrase(text)
-            if told or not lacks_words:
-                yield told or f"the words of {quoted(text)} are asked for beside each other; {quoted(text)} all words asks for them anywhere"
+    for it in asked_texts(path):
+        if len(list(words_of(it.value))) > 1 and unescaped(it.value) == it.value:
+            told = _of_phrase(it.value, is_read) or ("" if lacks_words else _of_words(it, is_read))
+            if told:
+                yield told
                 return
+
+
+def _of_words(text: AskedText, is_read: IsRead) -> str:
+    """That the words of a string are asked for beside each other, and what asks for them elsewhere too."""
+    anywhere = f"{quoted(text.value)} all words" + "".join(f" using {it}" for it in text.options)
+    told = f"the words of {quoted(text.value)} are asked for beside each other"
+    return f"{told}; {anywhere} asks for them anywhere" if is_read(_selects(anywhere)) else told
 
 
 _SIGNS = {"ftor": r"\s*\|+\s*|\s+(?:OR|Or)\s+", "ftand": r"\s*&&\s*|\s+(?:AND|And|\+)\s+", "ftand ftnot": r"\s+(?:AND\s+)?NOT\s+"}
 """What other languages write in strings, by the word that stands between strings here."""
 
 
-def _of_phrase(text: str) -> str:
+def _of_phrase(text: str, is_read: IsRead) -> str:
     """What may be meant by a string of several words that isn't found, where it has what parts strings in other languages; or else nothing."""
     for word, signs in _SIGNS.items():
         parts = re.split(signs, text)
-        if len(parts) > 1 and all(any(words_of(it)) for it in parts):
-            return f"{quoted(text)} is one phrase, with all its words beside each other; write (" + f" {word} ".join(map(quoted, parts)) + ")"
+        written = "(" + f" {word} ".join(map(quoted, parts)) + ")"
+        if len(parts) > 1 and all(any(words_of(it)) for it in parts) and is_read(_selects(written)):
+            return f"{quoted(text)} is one phrase, with all its words beside each other; write {written}"
     return ""

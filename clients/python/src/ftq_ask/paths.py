@@ -79,11 +79,128 @@ DOCUMENTS = re.compile(rf"\s*(?:collection\s*\(\s*\)|doc\s*\(\s*{STRING}\s*\))")
 """What a path begins with."""
 
 
-def asked_strings(path: str, negated: bool = True) -> list[str]:
-    """The strings that a path looks for in texts: not those of attributes, of names, of stop words and of languages; without `negated` not those
-    directly behind ftnot either."""
+@dataclass(frozen=True)
+class AskedText:
+    """A string that a path looks for in texts: what it says, whether it has to be there for something to be found, and which options hold for it."""
+
+    value: str
+    needed: bool
+    options: tuple[str, ...]
+
+    @property
+    def has_patterns(self) -> bool:
+        """Whether its parts with a period or a backslash are patterns."""
+        return "wildcards" in self.options
+
+
+def asked_strings(path: str) -> list[str]:
+    """The strings that a path looks for in texts: not those of attributes, of names, of stop words and of languages."""
     row = symbols(path)
-    return [row[it].value for it in _asked_places(row) if negated or row[it - 1].text != "ftnot"]
+    return [row[it].value for it in _asked_places(row)]
+
+
+def asked_texts(path: str) -> list[AskedText]:
+    """The same strings, with what else the path says of each."""
+    row = symbols(path)
+    unneeded = _unneeded_places(row)
+    return [AskedText(row[it].value, it not in unneeded and not _may_be_absent(row, it), _options_at(row, it)) for it in _asked_places(row)]
+
+
+def asked_values(path: str) -> list[tuple[str, str]]:
+    """The attributes with the values that a path asks for, where these have to be there."""
+    row = symbols(path)
+    unneeded = _unneeded_places(row)
+    values = (it for it in range(3, len(row)) if row[it].kind == "string" and [row[it - 3].text, row[it - 1].text] == ["@", "="])
+    return [(row[it - 2].text, row[it].value) for it in values if it not in unneeded]
+
+
+def _unneeded_places(row: list[Symbol]) -> set[int]:
+    """The places of the strings of a path that nothing has to have: behind ftnot, not in and not, and in what is ignored."""
+    found: set[int] = set()
+    levels = [(False, False)]
+    turned = in_value = False
+    for number, symbol in enumerate(row):
+        before, behind = row[number - 1].text if number else "", row[number + 1].text if number + 1 < len(row) else ""
+        negated, ignoring = levels[-1]
+        if symbol.kind == "string":
+            if turned or negated or ignoring:
+                found.add(number)
+            turned = turned and in_value
+        elif symbol.text == "ftnot" or (symbol.text == "not" and behind in ("in", "(")):
+            turned = True
+        elif symbol.text in ("{", "}"):
+            in_value = symbol.text == "{"
+            turned = turned and in_value
+        elif symbol.text in ("(", "["):
+            levels.append((turned or negated or ignoring, False))
+            turned = False
+        elif symbol.text in (")", "]") and len(levels) > 1:
+            levels.pop()
+        elif symbol.text in ("and", "or") or [before, symbol.text] == ["without", "content"]:
+            levels[-1] = negated, symbol.text == "content"
+    return found
+
+
+_VALUE = frozenset({",", "}", "any", "all", "word", "words", "phrase"})
+"""What stands behind a string and belongs to its value, beside other strings."""
+
+_GROUPS = {
+    "case sensitive": "case",
+    "case insensitive": "case",
+    "lowercase": "case",
+    "uppercase": "case",
+    "diacritics sensitive": "diacritics",
+    "diacritics insensitive": "diacritics",
+    "stemming": "stemming",
+    "no stemming": "stemming",
+    "wildcards": "wildcards",
+    "no wildcards": "wildcards",
+}
+"""The options that say which words are the same, each with its group: of one group that counts which stands nearest."""
+
+_USUAL = frozenset({"case insensitive", "diacritics insensitive", "no stemming", "no wildcards"})
+_GOING_ON = frozenset({"ftand", "ftor", "not", "window", "distance", "ordered", "same", "different", "entire", "start", "end"})
+"""Behind which of a selection's words no option belongs to what stands before."""
+
+
+def _behind_value(row: list[Symbol], number: int) -> int:
+    """The place behind the value in which a string stands."""
+    at = number + 1
+    while at < len(row) and (row[at].text in _VALUE or (row[at].kind == "string" and row[at - 1].text == ",")):
+        at += 1
+    return at
+
+
+def _may_be_absent(row: list[Symbol], number: int) -> bool:
+    """Whether a string is asked for so that it may stand there no time."""
+    at = _behind_value(row, number)
+    times = [it.text for it in row[at : at + 3]]
+    return times[:1] == ["occurs"] and times[1:] in (["at", "most"], ["exactly", "0"], ["from", "0"])
+
+
+def _options_at(row: list[Symbol], number: int) -> tuple[str, ...]:
+    """The options that hold for a string: those directly behind its value, then those behind each parenthesis that closes round it."""
+    told: dict[str, str] = {}
+    directly, depth = True, 0
+    for at in range(_behind_value(row, number), len(row)):
+        text = row[at].text
+        if text in ("(", "["):
+            depth += 1
+        elif text in (")", "]") and depth:
+            depth -= 1
+        elif depth:
+            continue
+        elif text in ("]", "without", "and", "or"):
+            break
+        elif text == ")":
+            directly = True
+        elif text == "using" and directly:
+            for option in (" ".join(it.text for it in row[at + 1 : at + 1 + length]) for length in (1, 2)):
+                if option in _GROUPS:
+                    told.setdefault(_GROUPS[option], option)
+        elif text in _GOING_ON:
+            directly = False
+    return tuple(sorted(it for it in told.values() if it not in _USUAL))
 
 
 def _asked_places(row: list[Symbol]) -> Iterator[int]:

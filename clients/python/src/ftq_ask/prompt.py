@@ -111,7 +111,7 @@ class Conversation:
         try:
             found = self.collection.found(line, path)
         except Refusal as refusal:
-            answers.say_refusal(self.out, path, refusal, self.collection.fault_of)
+            answers.say_refusal(self.out, path, refusal, self.collection)
             return
         answers.say(self.out, Text(answers.counted(len(found)), "bold"))
         self._marking, self._found, self._rest = Marking(path, self.collection), found, found
@@ -123,7 +123,7 @@ class Conversation:
         try:
             shown = self.collection.shown(path)
         except Refusal as refusal:
-            answers.say_refusal(self.out, path, refusal, self.collection.fault_of)
+            answers.say_refusal(self.out, path, refusal, self.collection)
             return
         answers.say(self.out, Text(answers.counted(len(shown)), "bold"))
         for it in shown:
@@ -136,7 +136,7 @@ class Conversation:
             found = self.collection.query(path)
             printed = self.collection.printed(path)
         except Refusal as refusal:
-            answers.say_refusal(self.out, path, refusal, self.collection.fault_of)
+            answers.say_refusal(self.out, path, refusal, self.collection)
             return
         answers.say(self.out, Text(answers.counted(len(found)), "bold"))
         for element, xml in zip(found, printed):
@@ -152,7 +152,7 @@ class Conversation:
             reply = self.collection.command(line, block)
         except Refusal as refusal:
             advise = answers.advice_for_selection if first_word(line) == "explain" else advice_for
-            answers.say_refusal(self.out, path_in(line), refusal, self.collection.fault_of, advise=advise)
+            answers.say_refusal(self.out, path_in(line), refusal, self.collection, advise=advise)
             return
         except ValueError as error:
             answers.say(self.out, Text(str(error), "red"))

@@ -49,6 +49,11 @@ class Spellings:
         counts, plain = self._gathered(), key(word)
         return (f"{plain[:at]} {plain[at:]}" for at in range(1, len(plain)) if plain[:at] in counts and plain[at:] in counts)
 
+    def written(self, word: str) -> str:
+        """A word as it first stands in a text, with whichever apostrophe, or as it is where it isn't known."""
+        plain = key(word)
+        return next(iter(self._listed("", [[plain] if plain in self._gathered() else self._folded(plain)])), word)
+
     def _listed(self, plain: str, rows: list[list[str]]) -> list[str]:
         """The first words of some rows, the commonest of each first, as they are written."""
         counts = self._gathered()

@@ -162,7 +162,7 @@ def hits(view: Collection, question: Question, taken: list[str], wish: Wish, mar
 def refused(path: str, refusal: Refusal, view: Collection) -> Refused:
     """What is said of a refusal, and what to write instead: as at the terminal."""
     if not isinstance(refusal, QueryFault):
-        return Refused(in_words(refusal))
+        return Refused(in_words(refusal, view.sources))
     column = refusal.column(path)
     said = f"{refusal.kind}: {FAULTS.get(refusal.kind, refusal.reply)}"
     try:
