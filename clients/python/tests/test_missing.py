@@ -62,6 +62,12 @@ def test_only_what_is_lacking_is_named(asked: Callable[[str], list[str]]) -> Non
     assert asked('collection()//p[. contains text "ships quartz" ftand "glas"]') == ["no document has the word quartz", "no document has the word glas"]
     assert asked('collection()//p[. contains text "storm" ftand "ships" ftand ftnot "quartz"]') == [TOGETHER]
     assert asked('collection()//p[. contains text "storm" ftor "quartz"]') == []
+    for text, write in [("ships OR quartz", '("ships" ftor "quartz")'), ("ships AND quartz", '("ships" ftand "quartz")')]:
+        told = [f'"{text}" is one phrase, with all its words beside each other; write {write}', "no document has the word quartz"]
+        assert asked(f'collection()//p[. contains text "{text}"]') == told
+    assert asked('collection()//p[. contains text "quartz&amp;storm"]')[1:] == ["no document has the word quartz"]
+    for text, pattern in [("stor*m", "stor.*m"), ("sto?m", "sto.m")]:
+        assert asked(f'collection()//p[. contains text "{text}"]') == [f'"{text}" is read as plain words; a pattern wants: "{pattern}" using wildcards']
     assert asked('doc("d")//p[. contains text "storm"]') == ['doc("d") doesn\'t have the word storm']
     assert asked('collection()//q[. contains text "storm"]') == ["no document has an element q"]
     assert asked('collection()//p[. contains text "regi.* quar.+" using wildcards]') == ["no document has a word that fits the pattern quar.+"]

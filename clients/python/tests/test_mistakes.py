@@ -2,6 +2,8 @@
 
 from __future__ import annotations
 
+import time
+
 import pytest
 
 pytest.importorskip("lxml")
@@ -64,6 +66,19 @@ def test_the_program_refuses_what_is_wrong_and_reads_what_is_written_instead(mis
         ('//p[contains(text(), "a") or @id=3]/text()', 'collection()//p[. contains text "a" or @id = "3"]'),
         ('count(//p[. contains text "a" AND "b" OR "c"])', 'collection()//p[. contains text "a" ftand "b" ftor "c"]'),
         ("collection()//p | //title", "collection()//p"),
+        ("storm AND ship", 'collection()//*[. contains text "storm" ftand "ship"]'),
+        ("it's dark or ship and not night", 'collection()//*[. contains text "it\'s dark" ftor "ship" ftand ftnot "night"]'),
+        ('collection() contains text "storm"', 'collection()/*[. contains text "storm"]'),
+        ('//p contains text "storm" AND NOT "ship"', 'collection()//p[. contains text "storm" ftand ftnot "ship"]'),
+        ("db:open()//p", "collection()//p"),
+        ('//p[. contains text any of ("storm", "ship")]', 'collection()//p[. contains text {"storm", "ship"} any]'),
+        ('//p[. contains text all ["storm" "ship"]]', 'collection()//p[. contains text {"storm", "ship"} all]'),
+        ('//p[. contains text any \'storm ship\']', "collection()//p[. contains text 'storm ship' any word]"),
+        ('//p[. contains text "storm" more than 2 times]', 'collection()//p[. contains text "storm" occurs at least 3 times]'),
+        ('//p[. contains text "storm" occurs twice]', 'collection()//p[. contains text "storm" occurs exactly 2 times]'),
+        ('//p[. contains text "storm"]]', 'collection()//p[. contains text "storm"]'),
+        # What a string says is no mistake.
+        ('//p[. contains text "FOR ALL: “it”" AND "TEXT" using case sensitive]', 'collection()//p[. contains text "FOR ALL: “it”" ftand "TEXT" using case sensitive]'),
         *[
             (f'collection()//p[. contains text "a" {wrong}]', f'collection()//p[. contains text "a" {right}]')
             for wrong, right in [
@@ -133,6 +148,18 @@ def test_what_counts_words_under_filters_is_read(session: Session) -> None:
         assert session.query(f"collection()//p[. contains text {selection}]") == []
 
 
+def test_advice_is_sought_for_a_short_while() -> None:
+    for part in ('"a" ftand ', " ", "[a", '"a",', '"', "(", "text "):
+        for path in (f"collection()//p[. contains text {part * (900 // len(part))}", f"collection()//p{part * 30_000}"):
+            start = time.process_time()
+            advice_for(path, ("syntax", len(path) - 1), lambda written: ("syntax", 30))
+            assert time.process_time() - start < 6, path[:60]
+
+
+def test_what_changes_nothing_is_no_reason(session: Session) -> None:
+    assert advised('collection()//p[. contains text {"storm", "ship"} all words nearby]', session) is None
+
+
 @pytest.mark.parametrize("path", ["collection()//p[", 'collection()//p[. contains text "a" &', 'collection()//p[@n < "1"]', "collection()//p[)]]"])
 def test_nothing_is_shown_that_the_program_doesnt_read(path: str, session: Session) -> None:
     advice = advised(path, session)
@@ -177,6 +204,8 @@ def test_each_fault_of_the_program_has_words() -> None:
         ('collection()//p[. contains text "rose" using stemming]', 1, "there are no stems"),
         ('collection()//p[. contains text "rose" using language "de"]', 1, "changes nothing"),
         ('collection()//p[. contains text "big storm"]', 0, '"big storm" all words'),
+        ('collection()//p[. contains text "sto?m"]', 0, '"sto.m" using wildcards'),
+        ('collection()//p[not contains text "storm"]', 0, "not(. contains text ..)"),
         ('collection()//p[. contains text "--"]', 0, "has no word"),
         ('collection()//p[. contains text "storm OR dark"]', 0, 'write ("storm" ftor "dark")'),
         ('collection()//p[. contains text "storm|dark night | sea"]', 0, 'write ("storm" ftor "dark night" ftor "sea")'),

@@ -36,7 +36,7 @@ def hints(path: str, found: int, vocabulary: Vocabulary, has_stems: bool, is_rea
     """What is likely meant otherwise in a path that was answered with so many elements; `lacks_words` tells that no document has one of its
     words, so that asking for them elsewhere in the element finds nothing either. What is said to be written is read by the program before."""
     of_nothing = [] if found else _of_nothing(path, vocabulary, is_read, lacks_words)
-    return [*_of_names(path, vocabulary), *_of_strings(path, is_read), *_of_stems(path, has_stems), *_of_ignored(path, is_read), *of_nothing]
+    return [*_of_names(path, vocabulary), *_of_strings(path, found, is_read), *_of_stems(path, has_stems), *_of_ignored(path, is_read), *of_nothing]
 
 
 def _selects(selection: str) -> str:
@@ -49,6 +49,9 @@ def _of_names(path: str, vocabulary: Vocabulary) -> Iterator[str]:
         axis, _, rest = named.name.partition("::")
         if rest and axis in _AXES:
             yield f"{named.name} is read as the name of an element; {_AXES[axis].replace('NAME', rest).replace('INNER', 'p').replace('OUTER', rest)}"
+            continue
+        if named.name == "not" and re.match(r"not\s+contains\b", path[named.start :]):
+            yield "not is read as the name of an element; not( .. ) turns what stands in it: not(. contains text ..)"
             continue
         known = vocabulary.elements if named.kind == "element" else vocabulary.attributes
         if known and named.name not in known:
@@ -66,12 +69,12 @@ def _instead(named: Named, known: dict[str, int]) -> str:
     return f"; did you mean {' or '.join(alike[:3])}?" if alike else ""
 
 
-def _of_strings(path: str, is_read: IsRead) -> Iterator[str]:
+def _of_strings(path: str, found: int, is_read: IsRead) -> Iterator[str]:
     for it in asked_texts(path):
         text, plain = it.value, unescaped(it.value)
-        dotted = quoted(re.sub(r"(?<!\.)\*", ".*", text))
+        dotted = quoted(re.sub(r"(?<=\w)\?(?=\w)", ".", re.sub(r"(?<!\.)\*", ".*", text)))
         pattern = f"{dotted} using wildcards"
-        if not it.has_patterns and looks_like_pattern(text):
+        if not it.has_patterns and looks_like_pattern(text, found):
             wanted = f": {pattern}" if is_read(_selects(pattern)) else " using wildcards, and is none as this is written"
             yield f"{quoted(text)} is read as plain words; a pattern wants{wanted}"
         if it.has_patterns and re.search(r"(?<!\.)\*", text):
@@ -83,9 +86,9 @@ def _of_strings(path: str, is_read: IsRead) -> Iterator[str]:
             yield f"a string is no XML, and has no references to characters{wanted}"
 
 
-def looks_like_pattern(text: str) -> bool:
-    """Whether a string is likely meant as a pattern."""
-    return bool(re.search(r"\w\.[*+?{]|^\.[*+?{]|\w\*|\*\w", text))
+def looks_like_pattern(text: str, found: int) -> bool:
+    """Whether a string is likely meant as a pattern; a question mark in a word is one where nothing was found."""
+    return bool(re.search(r"\w\.[*+?{]|^\.[*+?{]|\w\*|\*\w", text) or (not found and re.search(r"\w\?\w", text)))
 
 
 def unescaped(text: str) -> str:
@@ -133,7 +136,7 @@ def _of_nothing(path: str, vocabulary: Vocabulary, is_read: IsRead, lacks_words:
     if is_said(path, "all", "words") or is_said(path, "any", "word"):
         return
     for it in asked_texts(path):
-        if len(list(words_of(it.value))) > 1 and unescaped(it.value) == it.value:
+        if len(list(words_of(it.value))) > 1 and unescaped(it.value) == it.value and (it.has_patterns or not looks_like_pattern(it.value, 0)):
             told = _of_phrase(it.value, is_read) or ("" if lacks_words else _of_words(it, is_read))
             if told:
                 yield told
@@ -151,11 +154,24 @@ _SIGNS = {"ftor": r"\s*\|+\s*|\s+(?:OR|Or)\s+", "ftand": r"\s*&&\s*|\s+(?:AND|An
 """What other languages write in strings, by the word that stands between strings here."""
 
 
-def _of_phrase(text: str, is_read: IsRead) -> str:
-    """What may be meant by a string of several words that isn't found, where it has what parts strings in other languages; or else nothing."""
+def meant_parts(text: str) -> list[str]:
+    """What a string likely asks for: references as the characters for which they stand, and what signs of other languages join apart."""
+    plain = unescaped(text)
+    return next((parts for _, parts in _divided(plain)), [plain])
+
+
+def _divided(text: str) -> Iterator[tuple[str, list[str]]]:
+    """The parts of a string that has signs of other languages between words, each way behind the word that stands between strings here."""
     for word, signs in _SIGNS.items():
         parts = re.split(signs, text)
+        if len(parts) > 1 and all(any(words_of(it)) for it in parts):
+            yield word, parts
+
+
+def _of_phrase(text: str, is_read: IsRead) -> str:
+    """What may be meant by a string of several words that isn't found, where it has what parts strings in other languages; or else nothing."""
+    for word, parts in _divided(text):
         written = "(" + f" {word} ".join(map(quoted, parts)) + ")"
-        if len(parts) > 1 and all(any(words_of(it)) for it in parts) and is_read(_selects(written)):
+        if is_read(_selects(written)):
             return f"{quoted(text)} is one phrase, with all its words beside each other; write {written}"
     return ""

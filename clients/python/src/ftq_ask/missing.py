@@ -8,7 +8,7 @@ from typing import Iterator, Sequence
 from ftq_client import TimedOut
 
 from .collection import Collection
-from .hints import hints, looks_like_pattern
+from .hints import hints, looks_like_pattern, meant_parts
 from .paths import DOCUMENTS, AskedText, asked_texts, asked_values, quoted, symbols
 from .reading import BLOCKS
 from .words import words_of
@@ -82,12 +82,12 @@ def missing_values(path: str, collection: Collection) -> Iterator[str]:
 def _words(path: str) -> Iterator[tuple[str, tuple[str, ...]]]:
     """The words that have to be there, or the patterns among them, each with its options."""
     for text in asked_texts(path):
-        if text.needed and (text.has_patterns or not looks_like_pattern(text.value)):
+        if text.needed and (text.has_patterns or not looks_like_pattern(text.value, 0)):
             yield from ((it, text.options) for it in _parts(text))
 
 
 def _parts(text: AskedText) -> Iterator[str]:
-    for part in text.value.split() if text.has_patterns else [text.value]:
+    for part in text.value.split() if text.has_patterns else meant_parts(text.value):
         if text.has_patterns and ("." in part or "\\" in part):
             yield part
         else:

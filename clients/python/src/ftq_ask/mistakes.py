@@ -3,12 +3,14 @@
 from __future__ import annotations
 
 import re
+import time
 from dataclasses import dataclass
 from functools import cached_property
 from typing import Callable, Iterator
 
 from .filters import counted_otherwise
-from .paths import STRING, ended, missing_end
+from .paths import STRING, ended, missing_end, quoted, symbols
+from .words import words_of
 
 _NAME = r"[\w:][\w:.-]*"
 _OPTION = r"(?:case|diacritics)\s+(?:in)?sensitive|lowercase|uppercase|stemming|wildcards|stop\s+words|thesaurus"
@@ -39,9 +41,20 @@ class Mistake:
         """What shows the mistake. It is made when a path is faulty, and not at each start."""
         return re.compile(self.expression)
 
+    def places(self, path: str) -> list[re.Match[str]]:
+        """Where it shows in a path; what a string says is none of it."""
+        strings = [(it.start, it.start + len(it.text)) for it in symbols(path) if it.kind == "string"]
+        return [told for told in self.pattern.finditer(path) if not any(start < told.start() and told.end() < end for start, end in strings)]
+
     def write(self, path: str) -> str | None:
         """The path without this mistake."""
-        return None if self.put is None else self.pattern.sub(self.put, path)
+        if self.put is None:
+            return None
+        parts, at = [], 0
+        for told in self.places(path):
+            parts += [path[at : told.start()], told.expand(self.put) if isinstance(self.put, str) else self.put(told)]
+            at = told.end()
+        return "".join([*parts, path[at:]])
 
 
 @dataclass(frozen=True)
@@ -66,8 +79,71 @@ def _singular(told: re.Match[str]) -> str:
     return {"wildcard": "using wildcards"}.get(told[1], "using stemming" if told[1].startswith("stem") else "using stop words")
 
 
+_JOINING = re.compile(r"\s+(AND\s+NOT|and\s+not|NOT|AND|and|OR|or)\s+")
+
+
+def _bare(told: re.Match[str]) -> str:
+    """Words alone, joined as other languages do."""
+    first, *further = _JOINING.split(told[1])
+    joined = (f" {_joiner(word)} {quoted(text)}" for word, text in zip(further[::2], further[1::2]))
+    return f"collection()//*[. contains text {quoted(first)}{''.join(joined)}]"
+
+
+def _joiner(word: str) -> str:
+    return "ftor" if word.lower() == "or" else "ftand" if word.lower() == "and" else "ftand ftnot"
+
+
+def _near(told: re.Match[str]) -> str:
+    """The words of a string with so many others between them at most."""
+    return f"{told[1]} all words window {sum(1 for _ in words_of(told[1])) + int(told[2])} words"
+
+
+def _braced(strings: str, mode: str = "") -> str:
+    return "{" + ", ".join(re.findall(STRING, strings)) + "}" + mode
+
+
+def _mode_first(told: re.Match[str]) -> str:
+    """`all` or `any` before a value: behind it; of one string it is its words that are meant."""
+    strings = re.findall(STRING, told[2])
+    if len(strings) == 1:
+        return f"{strings[0]} {'all words' if told[1] == 'all' else 'any word'}"
+    return _braced(told[2], f" {told[1]}")
+
+
+def _times(told: re.Match[str]) -> str:
+    """How often, as it is said by `occurs`."""
+    if told[1]:
+        return f" occurs exactly {1 if told[1] == 'once' else 2} times"
+    if told[2]:
+        return f" occurs at least {int(told[3]) + 1} times" if told[2] == "more" else f" occurs at most {int(told[3]) - 1} times"
+    return f" occurs {told[4]}"
+
+
+_BOUNDS = {"<": "at most", "<=": "at most", "=": "exactly", ">": "at least", ">=": "at least"}
+_LANGUAGES = "danish|dutch|english|finnish|french|german|hungarian|italian|norwegian|portuguese|romanian|russian|spanish|swedish|turkish"
+
 MISTAKES: list[Mistake] = [
     Mistake("strings stand in straight quotation marks", "[“”„‟«»]", '"', "collection()//p[. contains text “storm”]"),
+    Mistake(
+        "strings stand in straight quotation marks",
+        "‘([^‘’]*)’|`([^`]*)`",
+        lambda told: quoted(told[1] or told[2] or ""),
+        "collection()//p[. contains text ‘storm’]",
+    ),
+    Mistake(
+        "a question is one path, without variables and return",
+        r"^\s*(?:for\s+\$\w+\s+in|let\s+\$\w+\s*:=)\s+((?:(?!\bwhere\b).)*?)\s+return\s+.*$",
+        r"\1",
+        "for $p in collection()//p return $p",
+    ),
+    Mistake(
+        "a path stands without parentheses; a number in brackets counts under each parent by itself",
+        r"^\s*\(\s*((?:(?:collection|doc)\b|//?).*?)\s*\)\s*((?:\[[^\]]*\])*)\s*$",
+        r"\1\2",
+        "(collection()//p)[1]",
+    ),
+    Mistake("a document is named with doc", r"^\s*(?:fn:doc|(?:fn:)?document|Doc|DOC)(?=\s*\()", "doc", 'document("moby")//p'),
+    Mistake("all documents are called collection()", r"^\s*(?:fn:collection|Collection|db:open|db:get)(?=\s*\()", "collection", "Collection()//p"),
     Mistake("a path begins at the documents", rf"^\s*(?=//?\s*(?:{_NAME}|\*))", "collection()", '//p[. contains text "storm"]'),
     Mistake(
         "a path has one step at least; /* leads to the roots",
@@ -98,10 +174,64 @@ MISTAKES: list[Mistake] = [
     ),
     Mistake(
         "a question is one path: ask two",
-        rf"\s*[|,]\s*(?:collection\s*\(\s*\)|doc\s*\(\s*{STRING}\s*\)|//?\s*[\w:*]).*$",
+        rf"\s*[|,]\s*(?:(?:collection\s*\(\s*\)|doc\s*\(\s*{STRING}\s*\)|//?\s*[\w:*]).*|{_NAME}\s*)$",
         "",
         "collection()//p | collection()//title",
     ),
+    Mistake("a question is one path: ask two", rf"(//?)\s*\(\s*({_NAME})\s*\|[^()]*\)", r"\1\2", "collection()//(p|title)"),
+    Mistake(
+        "a path has a step before its brackets; /* leads to the roots",
+        rf"^(\s*(?:collection\s*\(\s*\)|doc\s*\(\s*{STRING}\s*\)))\s*(?=\[)",
+        r"\1/*",
+        'collection()[. contains text "storm"]',
+    ),
+    Mistake("a step has a name, or * for any", r"(//?)\s*(?=\[)", r"\1*", 'collection()//[. contains text "storm"]'),
+    Mistake(
+        "what is asked of an element stands in its brackets",
+        rf"(?<=[\w\])*])\s+contains\s+text\s+((?:{STRING}|[^\[\]\"'])+?)\s*$",
+        r"[. contains text \1]",
+        'collection()//p contains text "storm"',
+    ),
+    Mistake(
+        "what is asked of an element stands in its brackets",
+        rf"(?<=[\w*])\s*[({{]\s*((?:\.|{_NAME})\s+contains\s+text\s+(?:{STRING}|[^\[\](){{}}\"'])+?)[)}}]\s*$",
+        r"[\1]",
+        'collection()//p(. contains text "storm")',
+    ),
+    Mistake("a string stands in brackets after contains text", rf"\[\s*({STRING})\s*\]", r"[. contains text \1]", 'collection()//p["storm"]'),
+    Mistake(
+        "it is called contains text",
+        r"\b(?:contains?\s*(?:the\s+)?texts?|(?:has|includes?|matches)\s+(?:the\s+)?texts?)\b(?=\s*[\"'{(]|\s+ftnot)",
+        "contains text",
+        'collection()//p[. contain text "storm"]',
+    ),
+    Mistake(
+        "what doesn't contain a text is not(. contains text ..)",
+        rf"(\[|\band\s+|\bor\s+)\s*((?:\.//?)?[\w:*/-]+|\.)\s+(?:not|does\s+not|doesn't)\s+contains?\s+text\s+"
+        rf"((?:{STRING}|[^\[\]\"'])+?)(?=\s*(?:\]|\band\b|\bor\b))",
+        r"\1not(\2 contains text \3)",
+        'collection()//p[. not contains text "storm"]',
+    ),
+    Mistake(
+        "a pattern of a word is asked for using wildcards",
+        rf"\bmatches\s*\(\s*(text\(\)|[^,()@]+?)\s*,\s*({STRING})\s*\)",
+        lambda told: f"{'.' if told[1] == 'text()' else told[1]} contains text {told[2]} using wildcards",
+        'collection()//p[matches(., "sto.*")]',
+    ),
+    Mistake(
+        "a pattern of a word is asked for using wildcards",
+        r"(\btext\s+)/([^/\[\]\"']+)/",
+        r'\1"\2" using wildcards',
+        "collection()//p[. contains text /sto.*/]",
+    ),
+    Mistake(
+        "how often words stand is said by occurs, and there are no other numbers to compare",
+        r"\b(?:count|string-length|sum|number)\s*\([^()]*\)\s*(?:[<>]=?|!?=)\s*[0-9]+|\bposition\s*\(\s*\)\s*(?:[<>]=?|!=)\s*[0-9]+"
+        rf"|(?<=\[)\s*(?:\.|{_NAME})\s*[<>]=?\s*[0-9]+",
+        None,
+        "collection()//chapter[count(p) > 1]",
+    ),
+    Mistake("a place is a number alone", r"\[\s*[0-9]+\s+to\s+[0-9]+\s*\]", None, "collection()//p[1 to 3]"),
     Mistake(
         "there are no functions of texts; capitals, blanks and markup don't count where words are compared",
         rf"\b(?:lower-case|upper-case|normalize-space|string|data|fn:\w+)\s*\(\s*(\.|{_NAME})\s*\)",
@@ -242,6 +372,62 @@ MISTAKES: list[Mistake] = [
         'collection()//p[. contains text "storm" same sentence "ship"]',
     ),
     Mistake(
+        "how far words may stand from each other is said by a distance behind them",
+        rf"({STRING})\s+(?:within|not\s+more\s+than)\s+([0-9]+)\s+words?\s+(?:of|from|to|near)\s+({STRING})",
+        r"\1 ftand \3 distance at most \2 words",
+        'collection()//p[. contains text "storm" within 5 words of "ship"]',
+    ),
+    Mistake(
+        "words near each other are asked for by a window",
+        r"(\"[^\"]*\s[^\"]*\"|'[^']*\s[^']*')\s*~\s*([0-9]+)",
+        _near,
+        'collection()//p[. contains text "storm ship"~5]',
+    ),
+    Mistake(
+        "in which order strings stand is said by ordered, behind those that ftand joins",
+        rf"({STRING})\s+(?:then|followed\s+by|before|precedes|preceding)\s+({STRING})",
+        r"\1 ftand \2 ordered",
+        'collection()//p[. contains text "storm" followed by "ship"]',
+    ),
+    Mistake(
+        "it is called ordered",
+        r"\b(?:in\s+(?:this\s+|that\s+)?order|order)\b",
+        "ordered",
+        'collection()//p[. contains text "storm" ftand "ship" in order]',
+    ),
+    Mistake(
+        "it is called same sentence, and same paragraph",
+        r"\b(?:(?:in|within)\s+(?:(?:the\s+)?same\s+|one\s+|an?\s+|the\s+)?|same\s+)(sentence|paragraph)s?\b",
+        r"same \1",
+        'collection()//p[. contains text "storm" ftand "ship" in the same sentence]',
+    ),
+    Mistake(
+        "it is called at start, and at end",
+        r"\b(?:at|in)\s+(?:the\s+)?(?:very\s+)?(start|beginning|end)\b(?:\s+of\s+(?:the\s+)?\w+)?",
+        lambda told: "at end" if told[1] == "end" else "at start",
+        'collection()//p[. contains text "storm" at the start]',
+    ),
+    Mistake(
+        "several strings stand in braces",
+        rf"(\btext\s+|\bft(?:and|or|not)\s+)[(\[]\s*({STRING}(?:\s*,\s*{STRING})+)\s*[)\]]",
+        lambda told: told[1] + _braced(told[2]),
+        'collection()//p[. contains text ("storm", "ship")]',
+    ),
+    Mistake(
+        "several strings stand in braces",
+        rf"(\btext\s+|\bft(?:and|or|not)\s+)({STRING}(?:\s*,\s*{STRING})+)",
+        lambda told: told[1] + _braced(told[2]),
+        'collection()//p[. contains text "storm", "ship"]',
+    ),
+    Mistake(
+        "any and all stand behind what they are said of",
+        rf"(?<=\s)(any|all)\s+(?:of\s+)?({STRING}|[({{\[]\s*{STRING}(?:\s*,?\s*{STRING})*\s*[)}}\]])",
+        _mode_first,
+        'collection()//p[. contains text all "storm ship"]',
+    ),
+    Mistake("ftand, ftor and ftnot are one word each", r"\bft\s+(and|or|not)\b", r"ft\1", 'collection()//p[. contains text "storm" ft and "ship"]'),
+    Mistake("between strings it is ftand", r"(?<=[\"'})])\s*\+\s*(?=[\"'{(])", " ftand ", 'collection()//p[. contains text "storm" + "ship"]'),
+    Mistake(
         "words near each other are asked for by a window",
         rf"({STRING})\s+(?:near|NEAR|close\s+to|next\s+to)\s+({STRING})",
         r"\1 ftand \2 window 10 words",
@@ -267,7 +453,7 @@ MISTAKES: list[Mistake] = [
     ),
     Mistake(
         "without a string is ftand ftnot",
-        r"(?<=[\"'})])\s+(?:ftnot|but\s+not|except)\s+(?=[\"'{(])",
+        r"(?<=[\"'})])\s+(?:ftnot|but\s+not|and\s+not|AND\s+NOT|NOT|not(?!\s+in\b)|except|without)\s+(?=[\"'{(])",
         " ftand ftnot ",
         'collection()//p[. contains text "storm" ftnot "night"]',
     ),
@@ -296,8 +482,15 @@ MISTAKES: list[Mistake] = [
         'collection()//p[. contains text "storm" with stemming]',
     ),
     Mistake(
+        "case and marks count for nothing where no option says that they do",
+        r"\s*\b(?:ignor(?:e|ing)|without|any)\s+(?:the\s+)?(?:case|diacritics|accents|marks|capitals)\b",
+        "",
+        'collection()//p[. contains text "storm" ignoring case]',
+    ),
+    Mistake(
         "what is left out of the search stands behind without content",
-        r"\b(?:(?:without|ignor(?:e|ing)|except|exclud(?:e|ing)|skip(?:ping)?)(?:\s+the)?(?:\s+contents?\b)?(?:\s+(?:of|in)\b)?)\s+(?=[\w.*/])(?!content\b)",
+        r"\b(?:(?:without|ignor(?:e|ing)|except|exclud(?:e|ing)|skip(?:ping)?)(?:\s+the)?(?:\s+contents?\b)?(?:\s+(?:of|in)\b)?)\s+(?=[\w.*/])"
+        r"(?!content\b|case\b|diacritics\b|accents\b|marks\b|capitals\b)",
         "without content ",
         'collection()//p[. contains text "storm" without note]',
     ),
@@ -375,7 +568,7 @@ MISTAKES: list[Mistake] = [
     ),
     Mistake(
         "there is no search by similarity; a pattern finds spellings",
-        r"\s*\busing\s+fuzzy(?:\s+[0-9]+\s+errors)?",
+        r"\s*\busing\s+fuzzy(?:\s+[0-9]+\s+errors)?|(?<=\w[\"'])~[0-9.]*",
         "",
         'collection()//p[. contains text "storm" using fuzzy]',
     ),
@@ -396,6 +589,42 @@ MISTAKES: list[Mistake] = [
         r"\bwindow\s+([0-9]+)(?![0-9]|\s+(?:words|sentences|paragraphs))",
         r"window \1 words",
         'collection()//p[. contains text "storm" ftand "ship" window 5]',
+    ),
+    Mistake(
+        "how often words stand is said by occurs",
+        r"(?<=[\"'})])(?:\s+occurs)?\s+(?:(once|twice)\b|(more|fewer|less)\s+than\s+([0-9]+)\s+times|((?:exactly|at\s+least|at\s+most)\s+[0-9]+\s+times))",
+        _times,
+        'collection()//p[. contains text "storm" at least 2 times]',
+    ),
+    Mistake(
+        "a distance is exactly, at least, at most or from .. to",
+        r"\bdistance\s*(<=?|>=?|=)\s*([0-9]+)(?:\s+words?)?",
+        lambda told: f"distance {_BOUNDS[told[1]]} {told[2]} words",
+        'collection()//p[. contains text "storm" ftand "ship" distance <= 5 words]',
+    ),
+    Mistake(
+        "a distance has a unit",
+        r"\bdistance\s+((?:exactly|at\s+least|at\s+most)\s+[0-9]+|from\s+[0-9]+\s+to\s+[0-9]+)(?![0-9]|\s+(?:words?|sentences?|paragraphs?)\b)",
+        r"distance \1 words",
+        'collection()//p[. contains text "storm" ftand "ship" distance at most 5]',
+    ),
+    Mistake(
+        "units are words, sentences and paragraphs",
+        r"\b(window\s+[0-9]+|distance\s+(?:(?:exactly|at\s+least|at\s+most)\s+[0-9]+|from\s+[0-9]+\s+to\s+[0-9]+))\s+(word|sentence|paragraph)\b",
+        r"\1 \2s",
+        'collection()//p[. contains text "storm" ftand "ship" window 1 paragraph]',
+    ),
+    Mistake(
+        "it is said what is sensitive: case, or diacritics",
+        r"\busing\s+(case|diacritics)(?!\s+(?:in)?sensitive\b)",
+        r"using \1 sensitive",
+        'collection()//p[. contains text "Storm" using case]',
+    ),
+    Mistake(
+        "a language's stems are asked for by using stemming, once --stem LANGUAGE has made them",
+        rf"\busing\s+(?:{_LANGUAGES})\b|\busing\s+language\s+(?![\"'])\w+",
+        "using stemming",
+        'collection()//p[. contains text "storms" using english]',
     ),
     Mistake(
         "a distance is exactly, at least, at most or from .. to",
@@ -427,7 +656,7 @@ MISTAKES: list[Mistake] = [
     Mistake(
         "a question is a path; a string stands in brackets after contains text",
         r"^\s*([\w’' -]+?)\s*$",
-        r'collection()//*[. contains text "\1"]',
+        _bare,
         "heavy storm",
     ),
 ]
@@ -446,6 +675,8 @@ FAULTS = {
 """What each fault of a query says, in a few words."""
 
 
+_CLOSERS = ("]", ")", "}")
+
 Fault = tuple[str, int]
 """A fault of a path: its kind, and the column at which it stands."""
 
@@ -455,14 +686,23 @@ MOST_MISTAKES = 4
 MOST_READ = 50
 """How many repaired paths the program is asked to read at most."""
 
+MOST_CHARACTERS = 1_000
+MOST_SECONDS = 2.0
+"""Of how long a path advice is sought, and for how long."""
+
 
 def advice_for(path: str, fault: Fault, fault_of: Callable[[str], Fault | None]) -> Advice | None:
     """What to write instead of a path with that fault, where it has one of the usual mistakes, or several. `fault_of` is the program's word on
     a path: none is shown that it doesn't read. Of the repairs those of the fewest mistakes are tried first."""
+    if len(path) > MOST_CHARACTERS:
+        return None
+    end = time.monotonic() + MOST_SECONDS
     first: str | None = None
     tried = {path}
     row: list[tuple[str, Fault, list[str]]] = [(path, fault, [])]
     for written, its_fault, whys in row:
+        if time.monotonic() > end:
+            break
         for repair in _repairs(written, *its_fault):
             first = first or repair.why
             if repair.write is None:
@@ -486,10 +726,14 @@ def _repairs(path: str, kind: str, column: int) -> Iterator[Advice]:
         yield from (Advice(why, written) for why, written in counted_otherwise(path, column))
     if kind != "syntax":
         return
-    found = [(mistake, told) for mistake in MISTAKES for told in mistake.pattern.finditer(path)]
+    found = [(mistake, told) for mistake in MISTAKES for told in mistake.places(path)]
     near = [it for it in found if it[1].start() - 1 <= column <= it[1].end() + 1]
     for mistake, _ in near or found:
-        yield Advice(mistake.why, mistake.write(path))
+        written = mistake.write(path)
+        if written != path:
+            yield Advice(mistake.why, written)
+    if path[column : column + 1] in _CLOSERS:
+        yield Advice(f"no bracket is open that {path[column]} closes", path[:column] + path[column + 1 :])
     missing = missing_end(path)
     if missing:
         written = ended(path)
