@@ -210,10 +210,12 @@ def test_light_and_dark_are_the_systems_or_chosen(browser: Browser) -> None:
 
 
 CONTRAST = """(() => {
-  const lit = (text) => {
-    const [r, g, b] = text.match(/[\\d.]+/g).map((it) => it / 255).map((it) => (it <= 0.03928 ? it / 12.92 : ((it + 0.055) / 1.055) ** 2.4));
+  const parts = (text) => text.match(/[\\d.]+/g).slice(0, 3).map(Number);
+  const lit = (row) => {
+    const [r, g, b] = row.map((it) => it / 255).map((it) => (it <= 0.03928 ? it / 12.92 : ((it + 0.055) / 1.055) ** 2.4));
     return 0.2126 * r + 0.7152 * g + 0.0722 * b;
   };
+  const opaque = (it) => (it ? getComputedStyle(it).opacity * opaque(it.parentElement) : 1);
   const ground = (it) => {
     for (; it; it = it.parentElement) {
       const told = getComputedStyle(it).backgroundColor;
@@ -222,12 +224,20 @@ CONTRAST = """(() => {
     return "rgb(255, 255, 255)";
   };
   const rows = [];
+  const look = (name, style, part, behind) => {
+    const under = parts(behind);
+    const over = parts(style.color).map((it, at) => it * part + under[at] * (1 - part));
+    const [a, b] = [lit(over), lit(under)].sort((x, y) => y - x);
+    if ((a + 0.05) / (b + 0.05) < 4.5) rows.push(`${name} ${((a + 0.05) / (b + 0.05)).toFixed(2)}`);
+  };
   for (const it of document.querySelectorAll("body *")) {
     const own = [...it.childNodes].some((node) => node.nodeType === 3 && node.data.trim());
     if (!own || !it.checkVisibility({ visibilityProperty: true })) continue;
-    const [a, b] = [lit(getComputedStyle(it).color), lit(ground(it))].sort((x, y) => y - x);
-    if ((a + 0.05) / (b + 0.05) < 4.5) rows.push(`${it.tagName}.${it.className} ${((a + 0.05) / (b + 0.05)).toFixed(2)}`);
+    look(`${it.tagName}.${it.className}`, getComputedStyle(it), opaque(it), ground(it));
   }
+  const field = document.getElementById("q");
+  const hint = getComputedStyle(field, "::placeholder");
+  look("placeholder", hint, hint.opacity * opaque(field), ground(field));
   return rows;
 })()"""
 
@@ -244,6 +254,14 @@ def test_pages_fit_and_are_legible(browser: Browser, width: int, scheme: str) ->
         browser.open(path, **values)
         assert browser.script("document.documentElement.scrollWidth <= innerWidth"), (path, values)
         assert browser.script(CONTRAST) == [], (path, values)
+
+
+def test_the_place_of_a_fault_is_seen_on_a_narrow_page(browser: Browser) -> None:
+    browser.size(390, 800)
+    browser.open("/", q='collection()//p[. contains text "storm"][. contains text "storm" and "ship"]')
+    at = browser.one(".caret .at")
+    assert at.text == '"' and at.location["x"] + at.size["width"] < 390
+    assert not browser.one(".caret .sign").is_displayed()
 
 
 def test_filters_of_a_narrow_page_are_opened(browser: Browser) -> None:
