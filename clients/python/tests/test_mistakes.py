@@ -8,11 +8,12 @@ import pytest
 
 pytest.importorskip("lxml")
 
+from ftq_ask.answers import advice_for_selection  # noqa: E402
 from ftq_ask.collection import Collection  # noqa: E402
 from ftq_ask.hints import hints  # noqa: E402
 from ftq_ask.missing import all_hints  # noqa: E402
 from ftq_ask.mistakes import FAULTS, MISTAKES, Advice, Mistake, advice_for  # noqa: E402
-from ftq_ask.paths import asked_strings, asked_texts, asked_values, missing_end, names_in, path_in, quoted, with_apostrophes  # noqa: E402
+from ftq_ask.paths import asked_strings, asked_texts, asked_values, closes_nothing, missing_end, names_in, path_in, quoted, with_apostrophes  # noqa: E402
 from ftq_ask.reading import Vocabulary  # noqa: E402
 from ftq_client import BadCommand, NoSuchDocument, QueryFault, Session  # noqa: E402
 
@@ -135,6 +136,17 @@ def test_a_count_under_a_filter_is_written_as_it_may_stand(selection: str, write
     fault_of = Collection(session).fault_of_selection
     fault = fault_of(selection)
     assert fault and advice_for(selection, fault, fault_of) == Advice(advice.why, write)
+
+
+@pytest.mark.parametrize(("path", "closes"), [("a[b]]", 4), ("a(b]", 3), ("a[b)]", 3), ("]", 0), ('a["]"]', None), ("a[(b)]", None), ("a[b", None)])
+def test_a_bracket_that_closes_nothing(path: str, closes: int | None) -> None:
+    assert [it for it in range(len(path)) if closes_nothing(path, it)] == ([] if closes is None else [closes])
+
+
+def test_a_selection_by_itself_gets_no_advice_for_what_stands_round_it(session: Session) -> None:
+    collection = Collection(session)
+    fault = collection.fault_of_selection('"a" occurs exactly')
+    assert fault and advice_for_selection('"a" occurs exactly', fault, collection.fault_of) is None
 
 
 def test_filters_of_what_is_ignored_dont_stand_round_a_count(session: Session) -> None:

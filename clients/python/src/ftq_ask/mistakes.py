@@ -9,7 +9,7 @@ from functools import cached_property
 from typing import Callable, Iterator
 
 from .filters import counted_otherwise
-from .paths import STRING, ended, missing_end, quoted, symbols
+from .paths import STRING, closes_nothing, ended, missing_end, quoted, symbols
 from .words import words_of
 
 _NAME = r"[\w:][\w:.-]*"
@@ -659,6 +659,12 @@ MISTAKES: list[Mistake] = [
         _bare,
         "heavy storm",
     ),
+    Mistake(
+        "behind ftand, ftor and ftnot stands what is asked for",
+        r"\bft(?:and|or|not)\s*(?=[\])]|$)",
+        None,
+        'collection()//p[. contains text "storm" ftand]',
+    ),
 ]
 """The mistakes, in the order in which they are looked for."""
 
@@ -674,8 +680,6 @@ FAULTS = {
 }
 """What each fault of a query says, in a few words."""
 
-
-_CLOSERS = ("]", ")", "}")
 
 Fault = tuple[str, int]
 """A fault of a path: its kind, and the column at which it stands."""
@@ -732,7 +736,7 @@ def _repairs(path: str, kind: str, column: int) -> Iterator[Advice]:
         written = mistake.write(path)
         if written != path:
             yield Advice(mistake.why, written)
-    if path[column : column + 1] in _CLOSERS:
+    if closes_nothing(path, column):
         yield Advice(f"no bracket is open that {path[column]} closes", path[:column] + path[column + 1 :])
     missing = missing_end(path)
     if missing:

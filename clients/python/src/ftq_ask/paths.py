@@ -53,6 +53,19 @@ def missing_end(path: str) -> str:
     return quote + "".join(reversed(ends))
 
 
+def closes_nothing(path: str, column: int) -> bool:
+    """Whether at that column of a text a bracket stands that closes none which is open."""
+    open_ones: list[str] = []
+    for symbol in symbols(path):
+        if symbol.text in _CLOSER:
+            open_ones.append(_CLOSER[symbol.text])
+        elif symbol.text in _CLOSER.values():
+            if not open_ones or open_ones[-1] != symbol.text:
+                return symbol.start == column
+            open_ones.pop()
+    return False
+
+
 def ended(path: str) -> str:
     """A text with what it lacks to its end. Where a string is open that ends in brackets, these are taken for those of the path."""
     missing = missing_end(path)
