@@ -15,7 +15,7 @@ from ftq_ask.missing import all_hints  # noqa: E402
 from ftq_ask.mistakes import FAULTS, MISTAKES, Advice, Mistake, advice_for  # noqa: E402
 from ftq_ask.paths import asked_strings, asked_texts, asked_values, closes_nothing, missing_end, names_in, path_in, quoted, with_apostrophes  # noqa: E402
 from ftq_ask.reading import Vocabulary  # noqa: E402
-from ftq_client import BadCommand, NoSuchDocument, QueryFault, Session  # noqa: E402
+from ftq_client import BadCommand, NoSuchDocument, NoSuchList, QueryFault, Session  # noqa: E402
 
 KNOWN = Vocabulary({"book": 2, "p": 2, "title": 2, "db:para": 1}, {"id": 2, "year": 1}, {"book": 2})
 
@@ -41,7 +41,7 @@ def test_the_program_refuses_what_is_wrong_and_reads_what_is_written_instead(mis
     assert (advice.write is None) == (mistake.put is None)
     try:
         session.query(advice.write or "collection()/*")
-    except NoSuchDocument:
+    except (NoSuchDocument, NoSuchList):
         pass
 
 
@@ -67,6 +67,9 @@ def test_the_program_refuses_what_is_wrong_and_reads_what_is_written_instead(mis
         ('//p[contains(text(), "a") or @id=3]/text()', 'collection()//p[. contains text "a" or @id = "3"]'),
         ('count(//p[. contains text "a" AND "b" OR "c"])', 'collection()//p[. contains text "a" ftand "b" ftor "c"]'),
         ("collection()//p | //title", "collection()//p"),
+        ('//p[contains text "a" and not(contains text "b")]', 'collection()//p[. contains text "a" and not(. contains text "b")]'),
+        ('//p[title/text() = "a"]', 'collection()//p[title contains text "a"]'),
+        ('//p[. contains text "the a" using stop words english]', 'collection()//p[. contains text "the a" using stop words at "english"]'),
         ("storm AND ship", 'collection()//*[. contains text "storm" ftand "ship"]'),
         ("it's dark or ship and not night", 'collection()//*[. contains text "it\'s dark" ftor "ship" ftand ftnot "night"]'),
         ('collection() contains text "storm"', 'collection()/*[. contains text "storm"]'),
@@ -106,7 +109,7 @@ def test_the_program_refuses_what_is_wrong_and_reads_what_is_written_instead(mis
 def test_several_mistakes_are_repaired_together(path: str, write: str, session: Session) -> None:
     advice = advised(path, session)
     assert advice is not None and advice.write == write
-    assert session.query(write) == []
+    assert Collection(session).fault_of(write) is None
 
 
 @pytest.mark.parametrize(

@@ -206,6 +206,12 @@ MISTAKES: list[Mistake] = [
         'collection()//p[. contain text "storm"]',
     ),
     Mistake(
+        "a period stands for the element with all that is in it",
+        r"(\[|\band\s+|\bor\s+|\()\s*(?=contains\s+text\b)",
+        r"\1. ",
+        'collection()//p[contains text "storm"]',
+    ),
+    Mistake(
         "what doesn't contain a text is not(. contains text ..)",
         rf"(\[|\band\s+|\bor\s+)\s*((?:\.//?)?[\w:*/-]+|\.)\s+(?:not|does\s+not|doesn't)\s+contains?\s+text\s+"
         rf"((?:{STRING}|[^\[\]\"'])+?)(?=\s*(?:\]|\band\b|\bor\b))",
@@ -265,7 +271,7 @@ MISTAKES: list[Mistake] = [
     ),
     Mistake(
         "texts are no steps: an element's text is asked for in its brackets",
-        r"//?\s*text\s*\(\s*\)\s*$",
+        r"//?\s*text\s*\(\s*\)(?=\s*(?:[|\]=]|contains\b|$))",
         "",
         "collection()//p/text()",
     ),
@@ -495,6 +501,12 @@ MISTAKES: list[Mistake] = [
         'collection()//p[. contains text "storm" without note]',
     ),
     Mistake(
+        "on both sides of | stands a path",
+        r"(?<=\bcontent)\s*\|(?!\s*\|)|\s*\|\s*(?=[\])]|$)",
+        "",
+        'collection()//p[. contains text "storm" without content note |]',
+    ),
+    Mistake(
         "behind it stands what is left out: NAME for children, .//NAME at any depth",
         r"\bwithout\s+content\s*(?=[\])]|$)",
         None,
@@ -559,6 +571,18 @@ MISTAKES: list[Mistake] = [
         r"\busing\s+(wildcard|stems?|stemmer|stop\s*words?)(?![\w ]|s\b)(?!\s*\()",
         _singular,
         'collection()//p[. contains text "sto.*" using wildcard]',
+    ),
+    Mistake(
+        "a list is named behind at",
+        r"\busing\s+(thesaurus|stop\s+words)\s+(?:(?=[\"'])|(?!at\b)([A-Za-z][\w-]*)(?=\s*(?:[\])]|using\b|$)))",
+        lambda told: f"using {told[1]} at " + (quoted(told[2]) if told[2] else ""),
+        'collection()//p[. contains text "storm" using thesaurus "sea"]',
+    ),
+    Mistake(
+        "a list is named behind at; --stop LANGUAGE loads one of stop words",
+        r"\busing\s+(?:thesaurus|stop\s+words)\s*(?=[\])]|$)",
+        None,
+        'collection()//p[. contains text "the storm" using stop words]',
     ),
     Mistake(
         "an option begins with using",
@@ -730,12 +754,9 @@ def _repairs(path: str, kind: str, column: int) -> Iterator[Advice]:
         yield from (Advice(why, written) for why, written in counted_otherwise(path, column))
     if kind != "syntax":
         return
-    found = [(mistake, told) for mistake in MISTAKES for told in mistake.places(path)]
-    near = [it for it in found if it[1].start() - 1 <= column <= it[1].end() + 1]
-    for mistake, _ in near or found:
-        written = mistake.write(path)
-        if written != path:
-            yield Advice(mistake.why, written)
+    found = [(mistake, told, written) for mistake in MISTAKES if (told := mistake.places(path)) and (written := mistake.write(path)) != path]
+    near = [it for it in found if any(told.start() - 1 <= column <= told.end() + 1 for told in it[1])]
+    yield from (Advice(mistake.why, written) for mistake, _, written in near or found)
     if closes_nothing(path, column):
         yield Advice(f"no bracket is open that {path[column]} closes", path[:column] + path[column + 1 :])
     missing = missing_end(path)
