@@ -22,6 +22,7 @@ pytest.importorskip("prompt_toolkit")
 
 from conftest import TOP  # noqa: E402
 from lxml import etree  # noqa: E402
+from test_reading import named_folder  # noqa: E402
 
 Ask = Callable[..., "subprocess.CompletedProcess[str]"]
 STORM = 'collection()//p[. contains text "storm"]'
@@ -64,6 +65,16 @@ def test_a_document_that_isnt_there_is_told_with_those_that_are(ask: Ask, folder
         for number in range(4):
             (folder / "more" / f"v{number}.xml").unlink()
     assert ran.stderr.splitlines()[-1] == "ask: there is no document letters; there is latin.xml, v0.xml, v1.xml and 2 more"
+
+
+def test_a_folder_that_is_asked_is_read_with_what_its_files_bring_in(ask: Ask, tmp_path: Path) -> None:
+    path = named_folder(tmp_path)
+    question = ("--query", 'collection()//a[. contains text "north sea" ftand "one"]', "--format", "paths")
+    ran = ask(tmp_path / "named", *question)
+    assert (ran.returncode, ran.stdout) == (0, 'doc("docs/d.xml")/a[1]\n')
+    assert "2 files passed over: 1 holds declarations alone (.ent 1), 1 stands in another file, and is read with it (.xml 1)" in ran.stderr
+    ran = ask(path, *question)
+    assert ran.returncode == 2 and "names.ent, which isn't in the file's folder" in ran.stderr
 
 
 def test_files_that_cant_be_taken_are_named_and_the_rest_goes_on(ask: Ask, folder: Path) -> None:

@@ -79,6 +79,18 @@ def one(cache: Path, path: Path, rules: Rules = Rules()) -> tuple[bytes, bool]:
     return row.content, it.found > 0
 
 
+def test_what_was_read_for_one_folder_isnt_found_for_another(tmp_path: Path) -> None:
+    (tmp_path / "named" / "docs").mkdir(parents=True)
+    part, path = tmp_path / "named" / "part.xml", tmp_path / "named" / "docs" / "d.xml"
+    part.write_text("<part/>")
+    path.write_text("<a><i:include xmlns:i='http://www.w3.org/2001/XInclude' href='../part.xml'><i:fallback>none</i:fallback></i:include></a>")
+    for it in (part, path):
+        os.utime(it, (1e9, 1e9))
+    rules = [Rules(), Rules(within=frozenset({tmp_path / "named"})), Rules(within=frozenset({tmp_path / "other"}))]
+    assert [one(tmp_path / "cache", path, it) for it in rules] == [(b"<a>none</a>", False), (b"<a><part/></a>", False), (b"<a>none</a>", True)]
+    assert one(tmp_path / "cache", path, rules[1]) == (b"<a><part/></a>", True)
+
+
 CHANGES: list[tuple[str, Callable[[Path], object]]] = [
     ("typed.xml", lambda top: (top / "r.dtd").write_text("<!ENTITY name 'Oslo and more'>")),
     ("with.xml", lambda top: (top / "001.xml").write_text("<r>another</r>")),

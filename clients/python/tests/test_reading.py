@@ -77,6 +77,34 @@ def test_entities_of_other_files_come_from_the_same_folder_alone(tmp_path: Path)
         assert caught.value.line == line
 
 
+def named_folder(top: Path) -> Path:
+    """A document in a folder of a folder, beside which another one has what it brings in; what isn't in the outer one it may not."""
+    (top / "named" / "docs").mkdir(parents=True)
+    (top / "named" / "common").mkdir()
+    (top / "named" / "common" / "names.ent").write_text("<!ENTITY sea 'North Sea'>")
+    (top / "named" / "common" / "part.xml").write_text("<part>one</part>")
+    (top / "secret.xml").write_text("<secret/>")
+    declared = "<!DOCTYPE a [<!ENTITY % names SYSTEM '../common/names.ent'>%names;]>"
+    path = top / "named" / "docs" / "d.xml"
+    path.write_text(f"{declared}<a>&sea;<include xmlns='http://www.w3.org/2001/XInclude' href='../common/part.xml'/></a>")
+    return path
+
+
+def test_files_of_a_folder_that_was_named_bring_in_one_another(tmp_path: Path) -> None:
+    path = named_folder(tmp_path)
+    named = Rules(within=frozenset({tmp_path / "named", tmp_path / "other"}))
+    reading = read_file(path, named)
+    assert reading.content == b"<a>North Sea<part>one</part></a>"
+    assert reading.parts == {tmp_path / "named" / "common" / it for it in ("names.ent", "part.xml")}
+    for rules in (Rules(), Rules(within=frozenset({tmp_path / "other", tmp_path / "named" / "common"}))):
+        with pytest.raises(Untaken, match="names.ent, which isn't in the file's folder or one that was named"):
+            read_file(path, rules)
+    for text in ("<!DOCTYPE a [<!ENTITY s SYSTEM '../../secret.xml'>]><a>&s;</a>", "<a><include xmlns='http://www.w3.org/2001/XInclude' href='../../secret.xml'/></a>"):
+        path.write_text(text)
+        with pytest.raises(Untaken, match="in the file's folder or one that was named"):
+            read_file(path, named)
+
+
 DTD = "<!ELEMENT a (#PCDATA|b)*><!ENTITY sea 'the &waves;'><!ENTITY waves 'waves'><!ATTLIST b kind CDATA 'plain'>"
 
 

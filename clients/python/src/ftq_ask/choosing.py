@@ -47,6 +47,7 @@ def rules_of(options: argparse.Namespace) -> Rules:
         catalogs=not options.no_catalog,
         drop_blanks=True if options.drop_blanks else False if options.keep_blanks else None,
         blocks=frozenset(name for names in options.blocks for name in names.split(",") if name) - BLOCKS,
+        within=frozenset(it.resolve() for it in options.paths if it.is_dir()),
     )
 
 

@@ -1,4 +1,4 @@
-"""Inclusions by XInclude 1.0: documents, parts of them and texts of a file's folder, put into their place."""
+"""Inclusions by XInclude 1.0: documents, parts of them and texts of a file's folders, put into their place."""
 
 from __future__ import annotations
 
@@ -31,14 +31,14 @@ class Part:
     wholes: frozenset[Path]
 
 
-def included(path: Path, root: etree._Element, read: Read, inside: tuple[Path, ...], looked: set[Path]) -> Iterator[Part]:
-    """Does the inclusions of a file, which is the last of those in `inside`, and tells of each what it brought in. The files that are looked
-    for are put into `looked`."""
+def included(path: Path, root: etree._Element, read: Read, inside: tuple[Path, ...], looked: set[Path], folders: list[Path]) -> Iterator[Part]:
+    """Does the inclusions of a file, which is the last of those in `inside`, and tells of each what it brought in from these folders. The files that
+    are looked for are put into `looked`."""
     row = _includes(root)
     for include in row:
         if include.getparent() is None:
             raise Untaken(path, include.sourceline, "the root is an inclusion: name the file that it includes")
-        part = _part(path, include, inside, looked)
+        part = _part(path, include, inside, looked, folders)
         if part and include.get("parse", "xml") == "text":
             text = _text(path, include, part)
             put_text(include, text)
@@ -54,7 +54,7 @@ def included(path: Path, root: etree._Element, read: Read, inside: tuple[Path, .
         fallback = include.find(_FALLBACK)
         if fallback is None:
             what = f"{include.get('href', '')} {include.get('xpointer', '')}".strip()
-            raise Untaken(path, include.sourceline, f"{what} is included, and there is no such file in the file's folder, or no such part of it")
+            raise Untaken(path, include.sourceline, f"{what} is included, and there is no such file in the file's folder or one that was named, or no such part of it")
         row += _includes(fallback)
         put_nodes(include, fallback.text or "", list(fallback))
 
@@ -76,8 +76,8 @@ def _includes(root: etree._Element) -> list[etree._Element]:
     return [it for it in root.iter(INCLUDE) if not inside(it)]
 
 
-def _part(path: Path, include: etree._Element, inside: tuple[Path, ...], looked: set[Path]) -> Path | None:
-    """The file that an inclusion brings in; None where it isn't in the folder of the file that includes it."""
+def _part(path: Path, include: etree._Element, inside: tuple[Path, ...], looked: set[Path], folders: list[Path]) -> Path | None:
+    """The file that an inclusion brings in; None where it isn't in the folders of the file that includes it."""
     named = path_of(include.get("href", ""))
     if named is None or not include.get("href"):
         return None
@@ -87,7 +87,7 @@ def _part(path: Path, include: etree._Element, inside: tuple[Path, ...], looked:
         raise Untaken(path, include.sourceline, f"{include.get('href')} is included by {MOST_INSIDE} files in one another")
     if part in inside:
         raise Untaken(path, include.sourceline, f"{include.get('href')} is included in itself")
-    return part if part.is_relative_to(path.parent.resolve()) and part.is_file() else None
+    return part if any(map(part.is_relative_to, folders)) and part.is_file() else None
 
 
 def _pointed(path: Path, include: etree._Element, root: etree._Element) -> list[etree._Element]:

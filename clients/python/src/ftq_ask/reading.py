@@ -61,13 +61,19 @@ class Vocabulary:
 class Rules:
     """What is read beside a file: its document type, what it includes, and what catalogs know of; and whether white space between elements
     is left out: where the document type says that it means nothing (None), everywhere or nowhere. `blocks` are the names of elements that part
-    paragraphs beside those of which the program knows."""
+    paragraphs beside those of which the program knows, `within` the folders whose files may bring in one another, beside those of their own folder."""
 
     doctypes: bool = True
     includes: bool = True
     catalogs: bool = True
     drop_blanks: bool | None = None
     blocks: frozenset[str] = frozenset()
+    within: frozenset[Path] = frozenset()
+
+    def folders_for(self, path: Path) -> list[Path]:
+        """The folders of which a file may bring in others."""
+        own = _real(os.path.abspath(path.parent))
+        return [own, *sorted(it for it in self.within if it != own and own.is_relative_to(it))]
 
 
 @dataclass(frozen=True)
@@ -111,7 +117,7 @@ def read_tree(path: Path, rules: Rules = Rules(), inside: tuple[Path, ...] = ())
         return tree
 
     includes = rules.includes and next(root.iter(INCLUDE), None) is not None
-    for part in included(path, root, read, (*inside, path.resolve()), looked) if includes else ():
+    for part in included(path, root, read, (*inside, path.resolve()), looked, rules.folders_for(path)) if includes else ():
         digest.update(part.digest)
         origins.update(part.origins)
         wholes |= part.wholes
@@ -143,7 +149,7 @@ def _parsed(path: Path, data: bytes, resolver: "_Resolver", rules: Rules) -> etr
     if elsewhere:
         name = Path(elsewhere[0]).name
         line = 1 + data[: max(data.find(name.encode()), 0)].count(b"\n")
-        raise Untaken(path, line, f"an entity brings in {name}, which isn't in the file's folder, and isn't read")
+        raise Untaken(path, line, f"an entity brings in {name}, which isn't in the file's folder or one that was named, and isn't read")
     _replace_entities(path, root, parser)
     return root
 
@@ -256,11 +262,11 @@ def _real(folder: str) -> Path:
 
 
 class _Resolver(etree.Resolver):
-    """Lets what a file names come from its folder, or from where the catalogs say that it is, and from nowhere else."""
+    """Lets what a file names come from its folders, or from where the catalogs say that it is, and from nowhere else."""
 
     def __init__(self, path: Path, rules: Rules) -> None:
         super().__init__()
-        self._folders = [_real(os.path.abspath(path.parent))]
+        self._folders = rules.folders_for(path)
         self._rules = rules
         self._elsewhere: list[tuple[str, str | None]] = []
         self.read: list[Path] = []
