@@ -3,6 +3,7 @@
 from __future__ import annotations
 
 import os
+import signal
 import subprocess
 import sys
 from pathlib import Path
@@ -38,6 +39,14 @@ def own_folders(tmp_path_factory: pytest.TempPathFactory) -> None:
     """What the tools keep, and what they note of what is running, stands apart from the user's own."""
     for name in ("XDG_CACHE_HOME", "XDG_RUNTIME_DIR"):
         os.environ[name] = str(tmp_path_factory.mktemp("own"))
+
+
+@pytest.fixture(scope="session", autouse=True)
+def interrupts_come() -> Iterator[None]:
+    """A shell that starts the tests behind it (`&`) has them ignore interrupts, and so all that they start; here interrupts are tried."""
+    was = signal.signal(signal.SIGINT, signal.default_int_handler)
+    yield
+    signal.signal(signal.SIGINT, was)
 
 
 @pytest.fixture(scope="session")
