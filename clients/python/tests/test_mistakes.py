@@ -215,6 +215,8 @@ def test_each_fault_of_the_program_has_words() -> None:
         ("collection()//para", 0, "with its prefix: db:para"),
         ("collection()//d:p", 0, "with another prefix: p"),
         ("collection()//book[@jear]", 0, "no document has an attribute jear; did you mean year?"),
+        ("collection()//book[@title]", 0, "no document has an attribute title; there are such elements: [title]"),
+        ("collection()//year", 0, "no document has an element year; there are such attributes: [@year]"),
         ("collection()/p", 0, "no document's root is p; //p"),
         ('collection()//p[. contains text "rose" using stemming]', 1, "there are no stems"),
         ('collection()//p[. contains text "rose" using language "de"]', 1, "changes nothing"),

@@ -53,9 +53,12 @@ def _of_names(path: str, vocabulary: Vocabulary) -> Iterator[str]:
         if named.name == "not" and re.match(r"not\s+contains\b", path[named.start :]):
             yield "not is read as the name of an element; not( .. ) turns what stands in it: not(. contains text ..)"
             continue
-        known = vocabulary.elements if named.kind == "element" else vocabulary.attributes
+        known, others = vocabulary.elements, vocabulary.attributes
+        if named.kind == "attribute":
+            known, others = others, known
         if known and named.name not in known:
-            yield f"no document has an {named.kind} {named.name}{_instead(named, known)}"
+            asked = f"elements: [{named.name}]" if named.kind == "attribute" else f"attributes: [@{named.name}]"
+            yield f"no document has an {named.kind} {named.name}" + (f"; there are such {asked}" if named.name in others else _instead(named, known))
 
 
 def _instead(named: Named, known: dict[str, int]) -> str:
