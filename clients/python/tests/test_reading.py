@@ -252,7 +252,7 @@ def test_inclusions_are_done(text: str, content: str, tmp_path: Path) -> None:
 @pytest.mark.parametrize(
     ("text", "line", "reason"),
     [
-        ("\n<xi:include href='absent.xml'/>", 2, "absent.xml is included, and there is no such file"),
+        ("\n<xi:include href='absent.xml'/>", 2, "absent.xml is included, and there is no such file .*; --no-xinclude leaves it as an element"),
         ("\n\n<xi:include href='../secret.xml'/>", 3, "no such file in the file's folder"),
         ("<xi:include href='http://example.org/x.xml'/>", 1, "no such file"),
         ("<xi:include href='d.xml'/>", 1, "d.xml is included in itself"),

@@ -54,7 +54,8 @@ def included(path: Path, root: etree._Element, read: Read, inside: tuple[Path, .
         fallback = include.find(_FALLBACK)
         if fallback is None:
             what = f"{include.get('href', '')} {include.get('xpointer', '')}".strip()
-            raise Untaken(path, include.sourceline, f"{what} is included, and there is no such file in the file's folder or one that was named, or no such part of it")
+            why = f"{what} is included, and there is no such file in the file's folder or one that was named, or no such part of it"
+            raise Untaken(path, include.sourceline, f"{why}; --no-xinclude leaves it as an element")
         row += _includes(fallback)
         put_nodes(include, fallback.text or "", list(fallback))
 
