@@ -171,6 +171,11 @@ def test_advice_is_sought_for_a_short_while() -> None:
             assert time.process_time() - start < 6, path[:60]
 
 
+@pytest.mark.parametrize("path", ["collection()//order[foo bar]", "collection()//a[b c][position() = 2]", "collection()//a[b c d e f g][last()]"])
+def test_what_stands_elsewhere_is_no_reason(path: str, session: Session) -> None:
+    assert advised(path, session) is None
+
+
 def test_what_changes_nothing_is_no_reason(session: Session) -> None:
     assert advised('collection()//p[. contains text {"storm", "ship"} all words nearby]', session) is None
 

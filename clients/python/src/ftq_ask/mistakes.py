@@ -397,7 +397,7 @@ MISTAKES: list[Mistake] = [
     ),
     Mistake(
         "it is called ordered",
-        r"\b(?:in\s+(?:this\s+|that\s+)?order|order)\b",
+        r"(?<=[\"'}) ])(?:in\s+(?:this\s+|that\s+)?order|order)\b(?=\s*(?:[\])]|$))",
         "ordered",
         'collection()//p[. contains text "storm" ftand "ship" in order]',
     ),
@@ -731,10 +731,13 @@ def advice_for(path: str, fault: Fault, fault_of: Callable[[str], Fault | None])
     for written, its_fault, whys in row:
         if time.monotonic() > end:
             break
-        for repair in _repairs(written, *its_fault):
-            first = first or repair.why
+        for repair, is_near in _repairs(written, *its_fault):
+            # What stands elsewhere is a reason only where the program reads what is written instead.
+            first = first or (repair.why if is_near else None)
             if repair.write is None:
-                return Advice(repair.why, None)
+                if is_near:
+                    return Advice(repair.why, None)
+                continue
             if repair.write in tried or len(tried) > MOST_READ:
                 continue
             tried.add(repair.write)
@@ -747,19 +750,19 @@ def advice_for(path: str, fault: Fault, fault_of: Callable[[str], Fault | None])
     return Advice(first, None) if first else None
 
 
-def _repairs(path: str, kind: str, column: int) -> Iterator[Advice]:
-    """What may be meant by a path with one fault: the usual mistakes that stand near it, or else those elsewhere, then what is open; where a count
-    stands where it may not, what may."""
+def _repairs(path: str, kind: str, column: int) -> Iterator[tuple[Advice, bool]]:
+    """What may be meant by a path with one fault, and whether that stands near it: the usual mistakes that do, or else those elsewhere, then what is
+    open; where a count stands where it may not, what may."""
     if kind == "inside filter":
-        yield from (Advice(why, written) for why, written in counted_otherwise(path, column))
+        yield from ((Advice(why, written), True) for why, written in counted_otherwise(path, column))
     if kind != "syntax":
         return
     found = [(mistake, told, written) for mistake in MISTAKES if (told := mistake.places(path)) and (written := mistake.write(path)) != path]
     near = [it for it in found if any(told.start() - 1 <= column <= told.end() + 1 for told in it[1])]
-    yield from (Advice(mistake.why, written) for mistake, _, written in near or found)
+    yield from ((Advice(mistake.why, written), bool(near)) for mistake, _, written in near or found)
     if closes_nothing(path, column):
-        yield Advice(f"no bracket is open that {path[column]} closes", path[:column] + path[column + 1 :])
+        yield Advice(f"no bracket is open that {path[column]} closes", path[:column] + path[column + 1 :]), True
     missing = missing_end(path)
     if missing:
         written = ended(path)
-        yield Advice(f"it isn't closed: {missing[0] if written != path + missing else missing} is missing", written)
+        yield Advice(f"it isn't closed: {missing[0] if written != path + missing else missing} is missing", written), True
