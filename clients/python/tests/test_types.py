@@ -34,7 +34,7 @@ def checked(*words: object, cache: Path) -> subprocess.CompletedProcess[str]:
     """What mypy says where nothing is let pass."""
     environment = {**os.environ, "MYPYPATH": str(TOP / "clients" / "python" / "src")}
     command = [sys.executable, "-m", "mypy", "--strict", "--cache-dir", str(cache), *map(str, words)]
-    return subprocess.run(command, capture_output=True, text=True, cwd=cache.parent, env=environment, timeout=300)
+    return subprocess.run(command, capture_output=True, text=True, cwd=cache.parent, env=environment, timeout=900)
 
 
 def test_the_client_and_who_uses_it_are_strict(tmp_path: Path) -> None:
