@@ -44,6 +44,7 @@ def test_the_client_and_who_uses_it_are_strict(tmp_path: Path) -> None:
     program.write_text(PROGRAM)
     ran = checked(program, cache=tmp_path / "cache")
     assert ran.returncode == 0, ran.stdout
-    program.write_text(PROGRAM.replace('"last"', '"middle"').replace("list[Shown]", "list[str]"))
-    ran = checked(program, cache=tmp_path / "cache")
+    faulty = tmp_path / "faulty.py"
+    faulty.write_text(PROGRAM.replace('"last"', '"middle"').replace("list[Shown]", "list[str]"))
+    ran = checked(faulty, cache=tmp_path / "cache")
     assert ran.returncode == 1 and ran.stdout.count(": error:") == 2, ran.stdout
