@@ -11,7 +11,7 @@ use Rattle.counted_shapes.specs.Accepted.{each_is_accepted, is_accepted, is_coun
 use Rattle.ft_parser.specs.Answer.{selection_read}
 use Rattle.ft_parser.specs.Selected.{Selects}
 use Rattle.ft_parser.proofs.SelectedLaws.{Outcome, all_read}
-use Rattle.query_symbols.specs.Symbols.{symbols_of}
+use Rattle.query_lexer.specs.Symbols.{symbols_of}
 use Rattle.selection_grammar.specs.declared.symbol.Placed.{Placed}
 use Rattle.selection_grammar.specs.Form.{form_of, forms_of}
 use Rattle.selection_grammar.specs.Tree as tree

@@ -10,8 +10,7 @@ use crate::item::CountedItem;
 use crate::items::lead_of_items;
 use crate::starting::start_items;
 use crate::window::Window;
-use ft_base::{Span, Steps};
-use place_merges::FirstWords;
+use ft_base::{FirstWords, Span, Steps};
 use std::sync::ledger::Ledger;
 use window_merges::Units;
 

@@ -8,8 +8,7 @@ ghost use Rattle.count_merges.specs.steps.Passing as spec;
 use crate::item::VariantGroup;
 use crate::passing::pass_up_to;
 use crate::window::Window;
-use ft_base::Steps;
-use place_merges::FirstWords;
+use ft_base::{FirstWords, Steps};
 use std::sync::ledger::Ledger;
 use window_merges::Units;
 

@@ -9,8 +9,7 @@ ghost use Rattle.count_merges.specs.steps.Passing as spec;
 use crate::groups::count_groups;
 use crate::item::CountedItem;
 use crate::window::Window;
-use ft_base::Steps;
-use place_merges::FirstWords;
+use ft_base::{FirstWords, Steps};
 use std::sync::ledger::Ledger;
 use window_merges::Units;
 

@@ -5,8 +5,8 @@ ghost use Rattle.place_merges.specs.Sources.{all_left, all_lists, all_plain};
 ghost use Rattle.count_merges.specs.steps.Passing as spec;
 
 use crate::window::Window;
-use ft_base::Steps;
-use place_merges::{FirstWords, Spot, Variant, next_lead};
+use ft_base::{FirstWords, Steps};
+use place_merges::{Spot, Variant, next_lead};
 use std::sync::ledger::Ledger;
 use window_merges::Units;
 

@@ -11,7 +11,7 @@ use Rattle.selection_grammar.specs.Shapes.{Shape, whole}
 use Rattle.selection_grammar.specs.Tree.{Tree}
 use Rattle.selection_faults.specs.Faults.{fault_of}
 use Rattle.ft_parser.specs.Limits.{before_limit, from_limit, limit_fault, is_deep_filter}
-use Rattle.query_symbols.specs.Symbols.{symbols_of}
+use Rattle.query_lexer.specs.Symbols.{symbols_of}
 
 -- where a symbol leads, and what is read from there on
 abbrev pub scanned_on : Placed → Option (Shape State) → (Shape State → Result (Option Tree) QueryFault) → Result (Option Tree) QueryFault

@@ -9,7 +9,7 @@ use Rattle.selection_grammar.specs.Shapes.{Shape, whole}
 use Rattle.ft_parser.specs.Answer.{symbols_read, symbols_with}
 use Rattle.ft_syntax.specs.View.{form}
 use Rattle.ft_syntax.specs.declared.selection.Selection.{Selection}
-use Rattle.query_symbols.specs.Symbols.{symbols_from}
+use Rattle.query_lexer.specs.Symbols.{symbols_from}
 
 -- a symbol that leads somewhere, and those that lead on from there
 abbrev pub one_and : Option (Shape State) → (Shape State → ℕ) → ℕ

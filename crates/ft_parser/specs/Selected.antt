@@ -15,7 +15,7 @@ use Rattle.selection_grammar.specs.Tree.{Tree}
 use Rattle.selection_faults.specs.Faults.{fault_of}
 use Rattle.ft_parser.specs.FilterLimit.{are_filters_within}
 use Rattle.ft_parser.specs.Limits.{is_great, depth_after, exceeds, is_deep_filter}
-use Rattle.query_symbols.specs.Symbols.{symbols_of}
+use Rattle.query_lexer.specs.Symbols.{symbols_of}
 
 -- how many parentheses are open after symbols
 abbrev pub open_after : ℕ → List Placed → ℕ

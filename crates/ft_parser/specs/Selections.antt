@@ -5,7 +5,7 @@ use Rattle.selection_grammar.specs.declared.symbol.Symbols.{Symbols}
 use Rattle.selection_grammar.specs.Tree.{Tree}
 use Rattle.selection_grammar.specs.steps.Machine.{read, finished}
 use Rattle.selection_grammar.specs.Form.{form_of}
-use Rattle.query_symbols.specs.Symbols.{symbols_of}
+use Rattle.query_lexer.specs.Symbols.{symbols_of}
 
 abbrev pub whole_tree : Option ℕ → Option Tree → Option Tree
 whole_tree None tree = tree

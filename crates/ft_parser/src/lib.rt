@@ -23,5 +23,5 @@ mod turn;
 mod value_turns;
 
 pub use prefix::{read_prefix, read_run};
-pub use query_symbols::{Placed, Symbol, Symbols, symbols, symbols_from};
+pub use query_lexer::{Placed, Symbol, Symbols, symbols, symbols_from};
 pub use read::read_selection;

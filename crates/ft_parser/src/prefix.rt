@@ -12,7 +12,7 @@ use crate::read::{faultless, read_to_end, rest};
 use crate::scan::{Scan, scan_symbols};
 use ft_base::QueryFault;
 use ft_syntax::Selection;
-use query_symbols::symbols_from;
+use query_lexer::symbols_from;
 use selection_grammar::{Parsed, Placed};
 use std::alloc::Global;
 

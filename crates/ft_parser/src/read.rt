@@ -12,7 +12,7 @@ use crate::limits::symbol_fault;
 use crate::scan::{Scan, scan_symbols};
 use ft_base::QueryFault;
 use ft_syntax::Selection;
-use query_symbols::symbols;
+use query_lexer::symbols;
 use selection_faults::{first_fault, selection_of};
 use selection_grammar::{Parsed, Placed};
 use std::alloc::Global;

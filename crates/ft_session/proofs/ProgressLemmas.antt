@@ -6,11 +6,11 @@ use Rattle.std.proofs.lemmas.List.{drop_all, take-append-drop, length-take-le}
 use Rattle.std.proofs.lemmas.List.Folds.{list_any-append}
 use Rattle.ft_io.specs.Shelf.{Reads}
 use Rattle.plan_runs.specs.Judgement.{Judgement}
-use Rattle.command_replies.specs.declared.command.Command.{Command}
-use Rattle.command_replies.specs.declared.reply.Reply.{Reply}
+use Rattle.reply_lines.specs.declared.command.Command.{Command}
+use Rattle.reply_lines.specs.declared.reply.Reply.{Reply}
 use Rattle.session_text.specs.Commands.{commands, whole}
 use Rattle.session_text.specs.steps.Reading.{Reading, new_reading, commands_left, whole_left}
-use Rattle.command_replies.specs.Replies.{is_refusal, reply_text}
+use Rattle.reply_lines.specs.Replies.{is_refusal, reply_text}
 use Rattle.session_state.specs.State.{State, opening}
 use Rattle.session_state.specs.Step.{replies, state_after, step}
 use Rattle.ft_session.specs.declared.answering.AnswerError.{AnswerError}

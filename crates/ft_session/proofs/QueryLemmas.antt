@@ -10,9 +10,9 @@ use Rattle.path_subset.specs.Answer.{path_read}
 use Rattle.path_subset.specs.Paths.{PathForm}
 use Rattle.plan_runs.specs.Judgement.{Judgement}
 use Rattle.session_text.specs.Commands.{commands}
-use Rattle.command_replies.specs.declared.command.Command.{Command}
-use Rattle.command_replies.specs.declared.command.Command.TheVariants.{Query, Show}
-use Rattle.command_replies.specs.declared.reply.Reply.TheVariants.{Nodes, Shown}
+use Rattle.reply_lines.specs.declared.command.Command.{Command}
+use Rattle.reply_lines.specs.declared.command.Command.TheVariants.{Query, Show}
+use Rattle.reply_lines.specs.declared.reply.Reply.TheVariants.{Nodes, Shown}
 use Rattle.session_state.specs.MarkedWords.{marked_for, shown_form}
 use Rattle.session_state.specs.Paths.{selected_in, IsAnswered}
 use Rattle.session_state.specs.State.{State, opening}

@@ -3,9 +3,9 @@ use Rattle.std.specs.Prelude.{ℕ, Bool, List}
 use Rattle.std.specs.List.{flat_map, list_any}
 use Rattle.made_sessions.specs.Asked.{short}
 use Rattle.plan_runs.specs.Judgement.{Judgement}
-use Rattle.command_replies.specs.declared.reply.Reply.{Reply}
+use Rattle.reply_lines.specs.declared.reply.Reply.{Reply}
 use Rattle.session_text.specs.Commands.{commands, whole}
-use Rattle.command_replies.specs.Replies.{reply_text, is_refusal}
+use Rattle.reply_lines.specs.Replies.{reply_text, is_refusal}
 use Rattle.session_state.specs.State.{opening}
 use Rattle.session_state.specs.Step.{replies}
 use Rattle.ft_session.specs.declared.portion.Portion.{Portion}

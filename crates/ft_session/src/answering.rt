@@ -1,16 +1,16 @@
 ghost use Rattle.std.specs.Prelude.{◌≡◌, ◌+◌, ◌^◌, ◌<◌, IfErr, IfOk, IsErrOf, OnErr, OnOk};
 ghost use Rattle.std.specs.List.{list_any};
-ghost use Rattle.command_replies.specs.Replies.{is_refusal, reply_text};
+ghost use Rattle.reply_lines.specs.Replies.{is_refusal, reply_text};
 ghost use Rattle.session_state.specs.Step.{replies, state_after, step};
 ghost use Rattle.ft_session.specs.Output.{portion_of as portion_text, portions_of};
 ghost use Rattle.ft_session.specs.Run.{TookPrefix, with_text};
 
 use crate::portion::{Portion, portion_of};
 use crate::writing::write_all;
-use command_replies::{Command, Commands, Reply, print_reply};
 use ft_base::{Memory, Steps};
 use ft_io::{Failed, Sink};
 use plan_runs::Judge;
+use reply_lines::{Command, Commands, Reply, print_reply};
 use session_state::Session;
 use std::alloc::Global;
 use std::sync::ledger::Ledger;

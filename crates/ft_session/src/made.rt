@@ -11,11 +11,11 @@ ghost use Rattle.ft_session.specs.Run.{TookPrefix, with_text};
 
 use crate::answering::{AnswerError, answer_all};
 use crate::portion::Portion;
-use command_replies::{Command, Commands};
 use ft_base::{Memory, Steps};
 use ft_io::Sink;
 use made_sessions::make_session;
 use plan_runs::Judge;
+use reply_lines::{Command, Commands};
 use session_state::Session;
 use session_text::Lines_;
 use std::alloc::Global;

@@ -12,7 +12,7 @@ use Rattle.std.proofs.lemmas.List.Sums.{count_by-le-length}
 use Rattle.ft_base.specs.declared.span.Span.{Span}
 use Rattle.ft_base.specs.Places.{is_ascending}
 use Rattle.all_matches.specs.Spans.{places_in}
-use Rattle.doc_index.proofs.TermLemmas.{ascending-at}
+use Rattle.index_document.proofs.TermLemmas.{ascending-at}
 use Rattle.index_cursors.specs.SpanHits.{started}
 use Rattle.index_cursors.proofs.AscendingLemmas.{up_to-fails, up_to-holds}
 use Rattle.ignore_view.specs.steps.Kept.{changes, is_number, places_of}

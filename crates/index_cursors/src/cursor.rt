@@ -8,8 +8,8 @@ ghost use Rattle.index_cursors.specs.SpanHits.{hits_in, is_before_both, places_u
 
 use crate::BreakView;
 use crate::search::{Reached, first_from, first_place};
-use doc_index::TermPlaces;
 use ft_base::{Hit, Hits, Span, Steps};
+use index_document::TermPlaces;
 use std::marker::Model;
 use std::sync::ledger::Ledger;
 

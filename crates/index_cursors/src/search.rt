@@ -3,7 +3,7 @@ ghost use Rattle.std.specs.Option.{ForSome};
 ghost use Rattle.ft_base.specs.Places.{is_ascending};
 ghost use Rattle.index_cursors.specs.SpanHits.{below, places_up_to};
 
-use doc_index::TermPlaces;
+use index_document::TermPlaces;
 
 /// How many places are compared one after the other before the steps of a search begin to double.
 const FEW: usize = 4;

@@ -2,8 +2,8 @@
 ghost use Rattle.std.specs.Prelude.{◌≡◌, ◌<◌, ◌∷◌, [], if◌then◌else◌, true};
 ghost use Rattle.ft_base.specs.Hits.{hit_place};
 
-use ft_base::{Hit, Hits, Span, Steps};
-use place_merges::{FirstWords, Item, Variant, count_places};
+use ft_base::{FirstWords, Hit, Hits, Span, Steps};
+use place_merges::{Item, Variant, count_places};
 use std::alloc::{AllocError, Global};
 use std::marker::Brand;
 use std::sync::ledger::{Blank, Ledger};

@@ -1,9 +1,9 @@
 // What no contract says: that memory suffices.
 ghost use Rattle.std.specs.Prelude.{◌≡◌, ◌<◌};
 
-use doc_index::DocIndex;
-use document_counts::DocumentCounts;
 use ft_base::{DocId, LeafId, Memory, Steps};
+use index_counts::DocumentCounts;
+use index_document::DocIndex;
 use std::alloc::Global;
 use std::marker::Brand;
 use std::sync::ledger::{Blank, Ledger};

@@ -1,9 +1,9 @@
 // What no contract says: that the calls run, over the places of an index.
 ghost use Rattle.std.specs.Prelude.{◌≡◌, ◌<◌};
 
-use doc_index::DocIndex;
 use ft_base::{Breaks, DocId, Hit, Hits, LeafId, Memory, Places, Span, Steps};
 use index_cursors::{BreakView, Cursor, Every};
+use index_document::DocIndex;
 use std::alloc::Global;
 use std::marker::Brand;
 use std::sync::ledger::{Blank, Ledger};

@@ -1,9 +1,9 @@
 // What no contract says: that memory suffices.
 ghost use Rattle.std.specs.Prelude.{◌≡◌, ◌<◌, ◌∷◌, [], IfOk};
-ghost use Rattle.doc_index.specs.Terms.{leaf_ids};
+ghost use Rattle.index_document.specs.Terms.{leaf_ids};
 
-use doc_index::{DocIndex, TermLeaf};
 use ft_base::{DocId, LeafId, Memory, Steps};
+use index_document::{DocIndex, TermLeaf};
 use std::alloc::Global;
 use std::marker::Brand;
 use std::sync::ledger::{Blank, Ledger};

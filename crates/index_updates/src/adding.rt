@@ -1,5 +1,5 @@
 ghost use Rattle.std.specs.Prelude.{◌≡◌, ◌≢◌, ◌≤◌, ◌<◌, ◌+◌, ◌^◌, ◌++◌, ◌∷◌, [], ℕ, false, true, IfOk, OnOk};
-ghost use Rattle.doc_index.specs.Terms.{are_distinct};
+ghost use Rattle.index_document.specs.Terms.{are_distinct};
 ghost use Rattle.index_meaning.specs.Documents.{document_at, document_of, has_document, leaf_ids, numbered, token_count, with_document};
 ghost use Rattle.index_meaning.specs.Index.{index};
 ghost use Rattle.ordered_tree.specs.Counts.{word_count};

@@ -6,11 +6,11 @@ use Rattle.std.proofs.lemmas.Bool.{and_parts, and_from, or_cases, or_left, or_ri
 use Rattle.std.proofs.lemmas.List.Sums.{sum_by-cons}
 use Rattle.std.proofs.lemmas.List.Elements.{All-weaker}
 use Rattle.ft_base.specs.Places.{is_ascending}
-use Rattle.doc_index.specs.Terms.{are_distinct, has, terms_of}
+use Rattle.index_document.specs.Terms.{are_distinct, has, terms_of}
 use Rattle.ft_base.proofs.PlacesLemmas.{rest-ascending}
-use Rattle.doc_index.proofs.TermLemmas.{first-below, terms_of-ascending}
+use Rattle.index_document.proofs.TermLemmas.{first-below, terms_of-ascending}
 use Rattle.index_meaning.specs.Dictionaries.{ids}
-use Rattle.document_counts.specs.Counts.{count_of, fallen}
+use Rattle.index_counts.specs.Counts.{count_of, fallen}
 use Rattle.index_versions.specs.declared.parts.Parts.{Parts}
 use Rattle.index_versions.specs.steps.Held.{Held, held_ids, documents_with, numbers, listed, listed_ids}
 use Rattle.index_versions.specs.steps.Exchange.{held_before, of_number, in_back, exchanged}

@@ -5,9 +5,9 @@ use Rattle.std.specs.List.{flat_map}
 use Rattle.std.proofs.lemmas.Bool.{or_parts, or_left, or_right, lt-ltb}
 use Rattle.std.proofs.lemmas.List.{map-append}
 use Rattle.std.proofs.lemmas.List.Sums.{sum_by-cons}
-use Rattle.doc_index.specs.Terms as by_id
-use Rattle.doc_index.specs.Terms.{has}
-use Rattle.doc_index.proofs.TermLemmas.{has-append, has-head}
+use Rattle.index_document.specs.Terms as by_id
+use Rattle.index_document.specs.Terms.{has}
+use Rattle.index_document.proofs.TermLemmas.{has-append, has-head}
 use Rattle.index_meaning.specs.Entries.{Entry}
 use Rattle.index_meaning.specs.Documents.{Leaf, Numbered, words_of, document_ids, has_document, document_at, document_of, no_document, numbered, leaf_of}
 use Rattle.index_versions.specs.steps.Held.{Held, word_of, leaf_under, document_under, documents_under, numbers, held_ids, documents_with, held_at}

@@ -9,7 +9,7 @@ use Rattle.std.proofs.lemmas.Bool.{and_parts, or_cases, or_left, or_right, cases
 use Rattle.std.proofs.lemmas.Cmp.{eq_by_cmp_equiv}
 use Rattle.std.proofs.lemmas.Option.{same_Some, none-some, slice_get_within}
 use Rattle.text_forms.specs.Forms.{key_of}
-use Rattle.doc_index.specs.Terms.{has}
+use Rattle.index_document.specs.Terms.{has}
 use Rattle.index_meaning.specs.Entries.{Entry, entry, entry_cmp, text_cmp, has_entry, is_below, is_sorted, stands_at}
 use Rattle.index_meaning.specs.Dictionaries.{Term, entries, ids, id_of, are_given}
 use Rattle.index_meaning.specs.Index.{term_of}

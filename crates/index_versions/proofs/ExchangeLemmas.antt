@@ -8,9 +8,9 @@ use Rattle.std.proofs.lemmas.Bool.{or_cases, or_left, or_right, or_from, cases_o
 use Rattle.std.proofs.lemmas.List.{map-append}
 use Rattle.std.proofs.lemmas.List.Sums.{length-filter, sum_by-append}
 use Rattle.ft_base.specs.Places.{is_ascending}
-use Rattle.doc_index.specs.Terms.{has}
+use Rattle.index_document.specs.Terms.{has}
 use Rattle.ft_base.proofs.PlacesLemmas.{rest-ascending}
-use Rattle.doc_index.proofs.TermLemmas.{first-below, ascending-cons, has-head, has-append}
+use Rattle.index_document.proofs.TermLemmas.{first-below, ascending-cons, has-head, has-append}
 use Rattle.index_cursors.specs.SpanHits.{below}
 use Rattle.index_meaning.specs.Entries.{Entry}
 use Rattle.index_meaning.specs.Documents.{numbered, with_document, without_document}

@@ -4,8 +4,8 @@ use Rattle.std.specs.Prelude.{nat_lt}
 use Rattle.std.specs.List.{All}
 use Rattle.std.proofs.lemmas.Bool.{or_parts, cases_Bool, false_from_ne_true, eqb-true}
 use Rattle.std.proofs.lemmas.List.Elements.{All-append, All-filter}
-use Rattle.doc_index.specs.Terms.{has, places_from, places_of}
-use Rattle.term_groups.specs.Groups.{may_be}
+use Rattle.index_document.specs.Terms.{has, places_from, places_of}
+use Rattle.index_groups.specs.Groups.{may_be}
 use Rattle.index_meaning.specs.Documents.{Numbered, document_at}
 use Rattle.index_meaning.specs.Postings.{places}
 use Rattle.index_versions.specs.Versions.{stands_in, term_at}

@@ -6,9 +6,9 @@ use Rattle.std.proofs.lemmas.List.{length-map, take-append-drop}
 use Rattle.std.proofs.lemmas.Grind.{flat_map-append}
 use Rattle.ft_base.specs.declared.ids.LeafId.{LeafId}
 use Rattle.ft_base.proofs.Truth.{or_swap}
-use Rattle.doc_index.specs.Terms as by_id
-use Rattle.doc_index.specs.Terms.{are_distinct, has}
-use Rattle.doc_index.proofs.TermLemmas.{has-append, has-at}
+use Rattle.index_document.specs.Terms as by_id
+use Rattle.index_document.specs.Terms.{are_distinct, has}
+use Rattle.index_document.proofs.TermLemmas.{has-append, has-at}
 use Rattle.index_meaning.specs.Entries.{Entry}
 use Rattle.index_meaning.specs.Documents.{Leaf, leaf_ids, leaves_with, put_after, leaf_words}
 use Rattle.index_versions.specs.steps.Held.{word_of, leaf_under, place_after, place_following, ids_of_leaf}

@@ -10,7 +10,7 @@ use Rattle.std.proofs.lemmas.List.Folds.{list_all-append}
 use Rattle.std.proofs.lemmas.Option.{same_Some}
 use Rattle.text_forms.specs.Forms.{key_of}
 use Rattle.ft_base.proofs.Truth.{or_swap, or_again, or_turned}
-use Rattle.doc_index.specs.Terms.{has}
+use Rattle.index_document.specs.Terms.{has}
 use Rattle.index_meaning.specs.Entries.{Entry, entry_cmp, text_cmp, by_order, has_entry, is_sorted, with_entry, with_entries, without_entry}
 use Rattle.index_meaning.specs.Dictionaries.{Dictionary, entries, ids, id_of, are_given, with_new, with_all_new, without_term}
 use Rattle.term_dict.proofs.TermLemmas.{entries_without, sorted_without, grown}

@@ -13,9 +13,9 @@ use Rattle.std.proofs.lemmas.List.Sums.{sum_by-cons}
 use Rattle.std.proofs.lemmas.Simd.{map-map}
 use Rattle.std.proofs.lemmas.Option.{same_Some, none-some}
 use Rattle.text_forms.specs.Forms.{key_of}
-use Rattle.doc_index.specs.Terms as by_id
-use Rattle.doc_index.specs.Terms.{has}
-use Rattle.doc_index.proofs.TermLemmas.{has-append, has-head}
+use Rattle.index_document.specs.Terms as by_id
+use Rattle.index_document.specs.Terms.{has}
+use Rattle.index_document.proofs.TermLemmas.{has-append, has-head}
 use Rattle.index_meaning.specs.Entries.{Entry, entry, entry_cmp, stands_at}
 use Rattle.index_meaning.specs.Dictionaries.{Term, entries, ids, are_given}
 use Rattle.index_meaning.specs.Documents.{Document, Leaf, Numbered, document_at, has_leaf, leaf_ids, token_count}

@@ -7,8 +7,8 @@ use Rattle.std.specs.Cmp.{both_ways}
 use Rattle.std.proofs.Math.Bool.{or-false}
 use Rattle.std.proofs.lemmas.Bool.{and_parts, or_cases, or_left, or_right, cases_Bool, eqb-true}
 use Rattle.text_forms.specs.Forms.{key_of}
-use Rattle.doc_index.specs.Terms.{has}
-use Rattle.doc_index.proofs.TermLemmas.{has-head}
+use Rattle.index_document.specs.Terms.{has}
+use Rattle.index_document.proofs.TermLemmas.{has-head}
 use Rattle.index_meaning.specs.Entries.{Entry, entry_cmp, has_entry, is_below, is_sorted, with_entry, with_entries}
 use Rattle.index_meaning.specs.Dictionaries.{Term, entries, ids, are_given}
 use Rattle.index_meaning.specs.Index.{term_of}

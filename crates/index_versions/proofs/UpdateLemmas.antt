@@ -11,14 +11,14 @@ use Rattle.ft_base.specs.declared.ids.LeafId.{LeafId}
 use Rattle.ft_base.specs.declared.places.Breaks.{Breaks}
 use Rattle.ft_base.specs.Places.{is_ascending}
 use Rattle.text_forms.specs.Forms.{key_of}
-use Rattle.doc_index.specs.Terms as by_id
-use Rattle.doc_index.specs.Terms.{TermDocument, has}
+use Rattle.index_document.specs.Terms as by_id
+use Rattle.index_document.specs.Terms.{TermDocument, has}
 use Rattle.index_meaning.specs.Entries.{Entry, text_cmp}
 use Rattle.index_meaning.specs.Dictionaries.{Dictionary, ids}
 use Rattle.index_meaning.specs.Documents.{Leaf, Document, leaf_of, document_of, numbered, leaf_words, has_leaf, token_count, with_leaf, without_leaf, with_breaks}
 use Rattle.index_meaning.specs.Documents.{document_at, with_document, leaves_with}
-use Rattle.document_counts.specs.Counts.{count_of}
-use Rattle.term_groups.specs.Groups.{may_be}
+use Rattle.index_counts.specs.Counts.{count_of}
+use Rattle.index_groups.specs.Groups.{may_be}
 use Rattle.index_versions.specs.declared.parts.Parts.{Parts}
 use Rattle.index_versions.specs.steps.Held.{Held, held_of, word_of, leaf_under, document_under, documents_under, numbers, held_ids, documents_with, held_at, listed, ids_of_leaf, place_following}
 use Rattle.index_versions.specs.steps.Exchange.{of_number, exchanged}

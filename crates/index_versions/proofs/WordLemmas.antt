@@ -7,10 +7,10 @@ use Rattle.std.proofs.lemmas.List.{map-append, map_more, take_more, length-map, 
 use Rattle.std.proofs.lemmas.List.Folds.{list_all-append}
 use Rattle.ft_base.proofs.Truth.{or_turned}
 use Rattle.text_forms.specs.Forms.{key_of}
-use Rattle.doc_index.specs.Terms as by_id
-use Rattle.doc_index.specs.Terms.{has}
-use Rattle.doc_index.proofs.TermLemmas.{has-append}
-use Rattle.document_counts.specs.Counts.{count_of}
+use Rattle.index_document.specs.Terms as by_id
+use Rattle.index_document.specs.Terms.{has}
+use Rattle.index_document.proofs.TermLemmas.{has-append}
+use Rattle.index_counts.specs.Counts.{count_of}
 use Rattle.index_meaning.specs.Entries.{Entry, text_cmp}
 use Rattle.index_meaning.specs.Dictionaries.{Dictionary, ids}
 use Rattle.index_meaning.specs.Documents.{Leaf, leaf_of}

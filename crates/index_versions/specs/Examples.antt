@@ -1,7 +1,7 @@
 -- Small documents over ids, for the examples.
 use Rattle.std.specs.Prelude.{List, [], ◌∷◌, codes}
 use Rattle.ft_base.specs.declared.places.Breaks.{Breaks}
-use Rattle.doc_index.specs.Terms as by_id
+use Rattle.index_document.specs.Terms as by_id
 use Rattle.index_meaning.specs.Entries.{Entry, entry}
 use Rattle.index_versions.specs.steps.Held.{Held, held_of}
 

@@ -1,8 +1,8 @@
 //! One document of a version goes, comes or is exchanged for another, and the dictionary, the counts and the groups follow.
 ghost use Rattle.std.specs.Prelude.{◌≡◌, ◌<◌, ◌+◌, ◌-◌, ◌&&◌, ◌==◌, ℕ, nat_lt, not, true, IfOk, IfSome, OnOk};
-ghost use Rattle.doc_index.specs.Terms.{are_distinct, has};
+ghost use Rattle.index_document.specs.Terms.{are_distinct, has};
 ghost use Rattle.index_meaning.specs.Dictionaries.{ids};
-ghost use Rattle.document_counts.specs.Counts.{count_of};
+ghost use Rattle.index_counts.specs.Counts.{count_of};
 ghost use Rattle.std.specs.List.{All};
 ghost use Rattle.index_versions.specs.steps.Held.{Held, documents_with, listed, listed_ids};
 ghost use Rattle.index_versions.specs.steps.Exchange.{exchanged};
@@ -11,12 +11,12 @@ ghost use Rattle.index_versions.specs.steps.Sound.{IsGrouped, IsSound, IsSoundFo
 use crate::exchange::exchange;
 use crate::held::HeldDocument;
 use crate::parts::Parts;
-use document_counts::DocumentCounts;
 use ft_base::{DocId, Line, Memory};
+use index_counts::DocumentCounts;
+use index_groups::TermGroups;
 use std::alloc::Global;
 use std::mem;
 use term_dict::TermDict;
-use term_groups::TermGroups;
 
 /// Puts a document, whose words the dictionary has, in the place of the one with that number, or takes that one out. A
 /// term that no document has any more leaves the dictionary.

@@ -1,5 +1,5 @@
 ghost use Rattle.std.specs.Prelude.{◌≡◌, ◌≤◌, ◌+◌, [], false, true, length, IfSome, OnErr, OnOk};
-ghost use Rattle.doc_index.specs.Terms.{are_distinct};
+ghost use Rattle.index_document.specs.Terms.{are_distinct};
 ghost use Rattle.index_meaning.specs.Documents.{leaf_of, document_of, numbered, leaf_ids, leaf_words, has_leaf, token_count};
 ghost use Rattle.index_meaning.specs.Documents.{with_leaf, without_leaf, with_breaks, has_document, document_at, with_document, without_document};
 ghost use Rattle.index_versions.specs.steps.Naming.{all_words};

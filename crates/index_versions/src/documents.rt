@@ -2,13 +2,13 @@
 ghost use Rattle.std.specs.Prelude.{◌≡◌, ◌==◌, false, true, slice_get, IfOk};
 ghost use Rattle.std.specs.Option.{option_map_or};
 ghost use Rattle.ft_base.specs.Places.{is_ascending};
-ghost use Rattle.doc_index.specs.Terms.{has};
+ghost use Rattle.index_document.specs.Terms.{has};
 ghost use Rattle.index_cursors.specs.SpanHits.{below};
 ghost use Rattle.index_versions.specs.steps.Held.{numbers, held_at};
 
 use crate::held::HeldDocument;
-use doc_index::DocIndex;
 use ft_base::{Breaks, DocId, Memory, Places};
+use index_document::DocIndex;
 use shared_list::SharedList;
 use std::alloc::Global;
 

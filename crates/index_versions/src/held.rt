@@ -1,8 +1,8 @@
 ghost use Rattle.std.specs.Prelude.{◌≡◌, IfOk};
 ghost use Rattle.index_versions.specs.steps.Held.{held_of};
 
-use doc_index::DocIndex;
 use ft_base::{Breaks, DocId, Memory};
+use index_document::DocIndex;
 use shared_list::Share;
 use std::alloc::Global;
 use std::marker::Model;

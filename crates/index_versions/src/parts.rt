@@ -2,11 +2,11 @@ ghost use Rattle.std.specs.Prelude.{◌≡◌, [], IfOk};
 ghost use Rattle.index_meaning.specs.Dictionaries.{dictionary};
 
 use crate::documents::Documents;
-use document_counts::DocumentCounts;
 use ft_base::Memory;
+use index_counts::DocumentCounts;
+use index_groups::TermGroups;
 use std::alloc::Global;
 use term_dict::TermDict;
-use term_groups::TermGroups;
 
 /// What a version is made of: its documents in the order of their numbers, over the ids of their words; the dictionary
 /// that names these ids; how many documents have each; and in which groups of documents each may stand.

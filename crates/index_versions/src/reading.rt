@@ -14,11 +14,11 @@ use crate::parts::Parts;
 use crate::term_source::FoundTerm;
 use crate::terms::term_id;
 use crate::version::Version;
-use doc_index::TermPlaces;
 use ft_base::{DocId, LeafId, Span, Steps};
 use index_cursors::{BreakView, Cursor, Every};
+use index_document::TermPlaces;
+use index_groups::Groups;
 use std::sync::ledger::Ledger;
-use term_groups::Groups;
 
 impl Version {
     /// Whether the document is there. Documents are in the order of their numbers, each once.

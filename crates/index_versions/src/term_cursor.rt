@@ -2,10 +2,9 @@ ghost use Rattle.std.specs.Prelude.{◌≡◌, ◌+◌, [], true};
 ghost use Rattle.ft_base.specs.Hits.{hit_place};
 ghost use Rattle.index_cursors.specs.SpanHits.{hits_in};
 
-use doc_index::TermPlaces;
-use ft_base::{Hit, Hits, Span, Steps};
+use ft_base::{FirstWords, Hit, Hits, Span, Steps};
 use index_cursors::{BreakView, Cursor};
-use place_merges::FirstWords;
+use index_document::TermPlaces;
 use std::marker::Model;
 use std::sync::ledger::Ledger;
 

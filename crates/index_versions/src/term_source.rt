@@ -11,12 +11,12 @@ ghost use Rattle.index_versions.specs.steps.Found.{IsFound, IsKept};
 use crate::held::HeldDocument;
 use crate::term_cursor::TermCursor;
 use crate::version::Version;
-use doc_index::TermPlaces;
 use ft_base::{DocId, Span, Steps};
 use index_cursors::{BreakView, first_word, first_word_near};
+use index_document::TermPlaces;
+use index_groups::Groups;
 use std::marker::Model;
 use std::sync::ledger::Ledger;
-use term_groups::Groups;
 
 /// A document in which a term was looked up.
 #[derive(Drop)]

@@ -1,6 +1,6 @@
 //! The terms of documents, as a dictionary has them.
 ghost use Rattle.std.specs.Prelude.{◌≡◌, ◌<◌, ℕ, length};
-ghost use Rattle.doc_index.specs.Terms.{places_of};
+ghost use Rattle.index_document.specs.Terms.{places_of};
 ghost use Rattle.index_meaning.specs.Dictionaries.{entries};
 ghost use Rattle.index_meaning.specs.Documents.{document_at};
 ghost use Rattle.index_meaning.specs.Index.{document_count};

@@ -1,17 +1,17 @@
 //! Words, and the ids under which a dictionary has them.
 ghost use Rattle.std.specs.Prelude.{◌≡◌, ◌≤◌, ◌<◌, ◌||◌, ◌∷◌, [], ℕ, nat_le, nat_lt, map, length, true, IfOk, IfSome, OnOk};
 ghost use Rattle.index_meaning.specs.Dictionaries.{ids};
-ghost use Rattle.doc_index.specs.Terms as by_id;
-ghost use Rattle.doc_index.specs.Terms.{has};
-ghost use Rattle.document_counts.specs.Counts.{count_of};
+ghost use Rattle.index_document.specs.Terms as by_id;
+ghost use Rattle.index_document.specs.Terms.{has};
+ghost use Rattle.index_counts.specs.Counts.{count_of};
 ghost use Rattle.index_versions.specs.steps.Held.{leaf_under, word_of};
 ghost use Rattle.index_versions.specs.steps.Naming.{all_words, entries_of, IsKnown, IsNamed};
 
 use crate::WordLeaves;
 use crate::hints::{WordHints, hash_of};
-use doc_index::TermLeaf;
-use document_counts::DocumentCounts;
 use ft_base::Memory;
+use index_counts::DocumentCounts;
+use index_document::TermLeaf;
 use std::alloc::Global;
 use std::mem;
 use term_dict::TermDict;

@@ -15,7 +15,7 @@ use Rattle.path_subset.specs.Answer.{path_read}
 use Rattle.path_subset.specs.Limits.{AreNumbersWithin, Within}
 use Rattle.path_subset.specs.Paths.{PathForm, path_form}
 use Rattle.path_subset.specs.Spelled.{Each, SpellsPath}
-use Rattle.query_symbols.specs.Symbols.{symbols_of}
+use Rattle.query_lexer.specs.Symbols.{symbols_of}
 use Rattle.element_lines.specs.LocationSteps.{Step}
 use Rattle.line_round_trip.proofs.Symbols.{after_root, after_step, close_place, line_placed, name_place, number_place, open_place, root_placed, step_placed, steps_placed}
 

@@ -12,7 +12,7 @@ use Rattle.selection_grammar.specs.Grammar.{at, name, string}
 use Rattle.selection_grammar.specs.declared.symbol.Placed.{Placed}
 use Rattle.selection_grammar.specs.declared.symbol.Symbol.TheVariants as S
 use Rattle.selection_grammar.specs.declared.symbol.Symbols.{Symbols}
-use Rattle.query_symbols.specs.Symbols.{before, first_lexeme, goes_on_as_name, symbols_of, symbols_within, with_further}
+use Rattle.query_lexer.specs.Symbols.{before, first_lexeme, goes_on_as_name, symbols_of, symbols_within, with_further}
 use Rattle.selection_round_trip.specs.Strings.{with_string, with_symbol}
 use Rattle.element_lines.specs.LocationSteps.{Step}
 use Rattle.line_round_trip.proofs.Letters.{AreReadable, IsReadable, line_letters, step_letters, steps_letters}

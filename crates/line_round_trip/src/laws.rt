@@ -12,7 +12,7 @@ ghost use Rattle.line_round_trip.specs.SelectsJust.{SelectsJust};
 
 use path_meaning::laws::{deep_step_law, order_law, places_law};
 use path_subset::laws::{depth_law, spelled_law};
-use query_symbols::laws::bound_law;
+use query_lexer::laws::bound_law;
 use selection_round_trip::laws::{names_read, numbers_read, strings_read};
 
 /// The line that names an element of a document, asked as a path, selects just that element. The document is one that can be printed,

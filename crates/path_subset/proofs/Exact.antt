@@ -11,7 +11,7 @@ use Rattle.selection_grammar.specs.Shapes.{Shape}
 use Rattle.selection_grammar.specs.Tree.{Tree}
 use Rattle.ft_parser.specs.Prefix.{run_read}
 use Rattle.ft_parser.specs.Selected.{Selects}
-use Rattle.query_symbols.specs.Symbols.{symbols_of}
+use Rattle.query_lexer.specs.Symbols.{symbols_of}
 use Rattle.ft_parser.proofs.SelectedExact.{selects_read}
 use Rattle.ft_parser.proofs.SelectedLaws.{rest_read}
 use Rattle.path_grammar.specs.declared.path.PathRoot.{PathRoot}

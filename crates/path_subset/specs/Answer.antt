@@ -6,7 +6,7 @@ use Rattle.ft_base.specs.declared.fault.QueryFault.TheVariants as Q
 use Rattle.selection_grammar.specs.declared.symbol.Placed.{Placed}
 use Rattle.selection_grammar.specs.declared.symbol.Symbols.{Symbols}
 use Rattle.ft_parser.specs.Prefix.{run_read}
-use Rattle.query_symbols.specs.Symbols.{symbols_of}
+use Rattle.query_lexer.specs.Symbols.{symbols_of}
 use Rattle.path_grammar.specs.Form as form
 use Rattle.path_grammar.specs.steps.Machine.{State, Stage, nothing, at_root, along, stand, selecting, selected, advance, finished, open_count}
 use Rattle.path_subset.specs.Limits.{exceeds, limit_fault}

@@ -2,7 +2,7 @@
 use Rattle.std.specs.Prelude.{◌≡◌, ℕ, List, [], ◌∷◌, ◌++◌, None}
 use Rattle.ft_base.specs.Selection.{Form}
 use Rattle.ft_parser.specs.Selected.{Selects}
-use Rattle.query_symbols.specs.Symbols.{symbols_of}
+use Rattle.query_lexer.specs.Symbols.{symbols_of}
 use Rattle.path_grammar.specs.Grammar.{Inside, Path}
 use Rattle.path_subset.specs.Limits.{Within}
 use Rattle.path_subset.specs.Paths.{PlacedForm, placed_form, PathForm}

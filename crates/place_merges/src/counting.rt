@@ -6,9 +6,8 @@ ghost use Rattle.place_merges.specs.Sources.{all_left, all_lists, all_plain, wan
 ghost use Rattle.place_merges.specs.steps.Searching.{Leads, Moved, SameFrom, one_stands, shown_variants};
 
 use crate::Variant;
-use crate::first_words::FirstWords;
 use crate::variant::lead_of_variant;
-use ft_base::{Span, Steps};
+use ft_base::{FirstWords, Span, Steps};
 use std::sync::ledger::Ledger;
 
 /// At how many places of the span one of the variants that count begins and ends in the span. A place counts once,

@@ -7,10 +7,9 @@ ghost use Rattle.place_merges.specs.Spots.{from_found, from_lead, spots_left};
 ghost use Rattle.place_merges.specs.steps.Searching.{Moved, shown_variant};
 ghost use Rattle.place_merges.specs.steps.Spotting.{IsInside, LeadsAfter, SameAfter, is_before, variant_at};
 
-use crate::first_words::FirstWords;
 use crate::variant::lead_of_variant;
 use crate::{Spot, Variant};
-use ft_base::Steps;
+use ft_base::{FirstWords, Steps};
 use std::sync::ledger::Ledger;
 
 /// The first spot after that one at which one of the variants that count stands, before `to`: the shortest one at the

@@ -15,7 +15,6 @@
 mod counting;
 pub mod examples;
 mod finding;
-mod first_words;
 mod item;
 pub mod laws;
 mod source;
@@ -24,7 +23,6 @@ mod variant;
 
 pub use counting::count_places;
 pub use finding::{next_lead, next_spot};
-pub use first_words::FirstWords;
 pub use item::{Item, Variant};
 pub use source::lead_of_sources;
 pub use spot::Spot;

@@ -5,8 +5,7 @@ ghost use Rattle.ft_base.specs.Hits.{hit_at, is_sorted, sought};
 ghost use Rattle.place_merges.specs.Sources.{places_left};
 ghost use Rattle.place_merges.specs.steps.Searching.{Leads, Moved, SameFrom, has, shown_source, shown_sources, some_has};
 
-use crate::first_words::FirstWords;
-use ft_base::Steps;
+use ft_base::{FirstWords, Steps};
 use std::sync::ledger::Ledger;
 
 /// Moves the source to its first hit from the place on, and tells the hit's first word.

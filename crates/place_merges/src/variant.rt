@@ -3,10 +3,9 @@
 ghost use Rattle.std.specs.Prelude.{◌≡◌, ◌+◌, ◌<◌, ◌≤◌, ◌^◌, vec_len};
 ghost use Rattle.place_merges.specs.steps.Searching.{Leads, Moved, SameFrom, item_fits, items_stand, shown_item, shown_items, shown_variant, variant_stands};
 
-use crate::first_words::FirstWords;
 use crate::source::lead_of_sources;
 use crate::{Item, Variant};
-use ft_base::Steps;
+use ft_base::{FirstWords, Steps};
 use std::sync::ledger::Ledger;
 
 /// The place, where the item fits the word there; or else a later one, up to the limit, before which it fits none.

@@ -3,7 +3,7 @@ use Rattle.std.proofs.Common.{◌+◌, ℕ, zero, suc, Bool, true, false, cond, 
 use Rattle.std.specs.Prelude.{option_map, encode_utf8}
 use Rattle.ft_base.specs.Characters.{is_name_start, is_blank}
 use Rattle.ft_base.specs.Letters.{is_digit, number_of, begins_with}
-use Rattle.query_symbols.specs.Symbols.{first_lexeme, first_number, first_string, first_mark, name_at, number_at, string_at, slash_at, mark_at, mark_of, quoted_at, with_letter, is_quote, is_slash, goes_on_as_name, run_of, bytes_of_first, with_further, symbols_within}
+use Rattle.query_lexer.specs.Symbols.{first_lexeme, first_number, first_string, first_mark, name_at, number_at, string_at, slash_at, mark_at, mark_of, quoted_at, with_letter, is_quote, is_slash, goes_on_as_name, run_of, bytes_of_first, with_further, symbols_within}
 use Rattle.selection_grammar.specs.declared.symbol.Placed.{Placed}
 use Rattle.selection_grammar.specs.declared.symbol.Symbol.{Symbol}
 use Rattle.selection_grammar.specs.declared.symbol.Symbol.TheVariants as S

@@ -6,7 +6,7 @@ use Rattle.std.specs.Prelude.{chars, encode_utf8_all}
 use Rattle.ft_base.specs.Characters.{is_name_char, is_name_start}
 use Rattle.ft_syntax.specs.Spacing.{opens, closes, set_out}
 use Rattle.selection_grammar.specs.declared.symbol.Placed.{Placed}
-use Rattle.query_symbols.specs.Symbols.{before, symbols_of, symbols_within}
+use Rattle.query_lexer.specs.Symbols.{before, symbols_of, symbols_within}
 use Rattle.selection_round_trip.specs.Places.{symbols_in}
 use Rattle.selection_round_trip.specs.Printable.{AllPrintable, HasSymbols}
 use Rattle.selection_round_trip.specs.Printed.{spelling, spellings}

@@ -8,7 +8,7 @@ use Rattle.ft_base.specs.Characters.{is_name_start, is_name_char, is_blank}
 use Rattle.ft_base.proofs.CharacterLemmas.{start_is_inside}
 use Rattle.selection_grammar.specs.declared.symbol.Symbol.TheVariants.{Name}
 use Rattle.selection_grammar.specs.declared.symbol.Symbols.{Symbols}
-use Rattle.query_symbols.specs.Symbols.{first_lexeme, first_number, name_at, goes_on_as_name, with_further, symbols_within}
+use Rattle.query_lexer.specs.Symbols.{first_lexeme, first_number, name_at, goes_on_as_name, with_further, symbols_within}
 use Rattle.selection_round_trip.specs.Strings.{with_symbol}
 use Rattle.selection_round_trip.proofs.PrintedStrings.{take_prefix}
 

@@ -15,7 +15,7 @@ use Rattle.ft_base.specs.Letters.{is_digit, number_of}
 use Rattle.ft_base.specs.Limits.{max_number}
 use Rattle.selection_grammar.specs.declared.symbol.Symbol.TheVariants.{Number}
 use Rattle.selection_grammar.specs.declared.symbol.Symbols.{Symbols}
-use Rattle.query_symbols.specs.Symbols.{first_lexeme, first_number, first_string, name_at, number_at, goes_on_as_name, run_of, with_further, symbols_within}
+use Rattle.query_lexer.specs.Symbols.{first_lexeme, first_number, first_string, name_at, number_at, goes_on_as_name, run_of, with_further, symbols_within}
 use Rattle.selection_round_trip.specs.Strings.{with_symbol}
 use Rattle.selection_round_trip.proofs.PrintedNames.{run_all}
 use Rattle.selection_round_trip.proofs.PrintedStrings.{take_prefix}

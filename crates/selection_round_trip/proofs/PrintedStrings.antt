@@ -10,7 +10,7 @@ use Rattle.ft_base.specs.Characters.{is_name_start}
 use Rattle.ft_base.specs.Letters.{begins_with}
 use Rattle.selection_grammar.specs.declared.symbol.Symbol.TheVariants as S
 use Rattle.selection_grammar.specs.declared.symbol.Symbols.{Symbols}
-use Rattle.query_symbols.specs.Symbols.{with_letter, quoted_at, first_lexeme, before, with_further, symbols_within}
+use Rattle.query_lexer.specs.Symbols.{with_letter, quoted_at, first_lexeme, before, with_further, symbols_within}
 use Rattle.ft_syntax.specs.OptionSymbols.{in_quotes, string_symbol}
 use Rattle.ft_syntax.proofs.Quotes.{in_quotes_letter}
 use Rattle.selection_round_trip.specs.Strings.{with_string}

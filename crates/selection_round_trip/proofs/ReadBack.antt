@@ -8,7 +8,7 @@ use Rattle.ft_syntax.specs.Symbols.{symbols, printed}
 use Rattle.ft_parser.specs.Answer.{selection_read, symbols_read}
 use Rattle.ft_parser.specs.Limits.{depth_after}
 use Rattle.ft_parser.specs.Selected.{Selects}
-use Rattle.query_symbols.specs.Symbols.{symbols_of}
+use Rattle.query_lexer.specs.Symbols.{symbols_of}
 use Rattle.ft_parser.proofs.SelectedExact.{selects_read}
 use Rattle.selection_grammar.specs.declared.symbol.Placed.{Placed}
 use Rattle.selection_grammar.specs.declared.symbol.Symbols.{Symbols}

@@ -17,7 +17,7 @@ use Rattle.ft_syntax.specs.OptionSymbols.{in_quotes, string_symbol}
 use Rattle.ft_syntax.specs.Spacing.{opens, closes}
 use Rattle.selection_grammar.specs.declared.symbol.Symbol.{Symbol}
 use Rattle.selection_grammar.specs.declared.symbol.Symbol.TheVariants as S
-use Rattle.query_symbols.specs.Symbols.{first_lexeme, goes_on_as_name, symbols_within}
+use Rattle.query_lexer.specs.Symbols.{first_lexeme, goes_on_as_name, symbols_within}
 use Rattle.selection_round_trip.specs.Printable.{IsEncoded, is_small_letter, is_keyword, Printable}
 use Rattle.selection_round_trip.specs.Printed.{spelling}
 use Rattle.selection_round_trip.specs.Strings.{with_symbol, with_string}

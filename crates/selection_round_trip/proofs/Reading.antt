@@ -6,7 +6,7 @@ use Rattle.ft_syntax.specs.Symbols.{symbols}
 use Rattle.ft_parser.specs.Answer.{selection_read}
 use Rattle.ft_parser.specs.Limits.{depth_after, exceeds}
 use Rattle.ft_parser.specs.Selected.{Selects, IsWhole, open_after}
-use Rattle.query_symbols.specs.Symbols.{symbols_of}
+use Rattle.query_lexer.specs.Symbols.{symbols_of}
 use Rattle.ft_parser.proofs.SelectedLaws.{Outcome, all_read}
 use Rattle.selection_grammar.specs.declared.symbol.Placed.{Placed}
 use Rattle.selection_grammar.specs.Form.{form_of}

@@ -1,6 +1,6 @@
 -- What is read of symbols one after the other.
 use Rattle.std.specs.Prelude.{ℕ, ◌+◌, List, length}
-use Rattle.query_symbols.specs.Symbols.{before, symbols_within}
+use Rattle.query_lexer.specs.Symbols.{before, symbols_within}
 use Rattle.ft_syntax.specs.OptionSymbols.{string_symbol}
 use Rattle.selection_grammar.specs.declared.symbol.Symbol.{Symbol}
 use Rattle.selection_grammar.specs.declared.symbol.Symbol.TheVariants.{Text}

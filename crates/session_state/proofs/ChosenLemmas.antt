@@ -14,7 +14,7 @@ use Rattle.ordered_tree.specs.Numbered.{Numbered, plain, reference}
 use Rattle.path_nodes.specs.References.{element_of, IsElement}
 use Rattle.plain_tree.specs.declared.place.How.{How}
 use Rattle.plain_tree.specs.declared.tree.Tree.{Tree}
-use Rattle.command_replies.specs.declared.reply.Refusal.TheVariants as refusal
+use Rattle.reply_lines.specs.declared.reply.Refusal.TheVariants as refusal
 use Rattle.tree_edits.specs.Edits.{is_among, is_same}
 use Rattle.tree_edits.specs.Acts.{stays}
 use Rattle.ft_base.specs.declared.memory.Memory.{Memory}
@@ -22,8 +22,8 @@ use Rattle.session_state.specs.declared.targets.Chosen.{Chosen}
 use Rattle.session_state.specs.declared.edit.Targets.{Targets}
 use Rattle.session_state.specs.declared.edit.Targets.TheVariants.{One, Any}
 use Rattle.std.specs.Str.{bytes_eq}
-use Rattle.collections.specs.Loaded.{LoadedTree, to_document, trees_of}
-use Rattle.collections.specs.Targets.{places_of_targets, AreTargets}
+use Rattle.document_store.specs.Loaded.{LoadedTree, to_document, trees_of}
+use Rattle.document_store.specs.Targets.{places_of_targets, AreTargets}
 use Rattle.ft_base.specs.declared.ids.NodeRef.{NodeRef}
 use Rattle.path_grammar.specs.declared.path.PathRoot.{PathRoot}
 use Rattle.path_grammar.specs.declared.path.PathRoot.TheVariants.{Collection, Doc}

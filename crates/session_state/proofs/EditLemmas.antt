@@ -1,7 +1,7 @@
 -- What a command that edits does, once its path is read and all that it names is there, or is refused.
 use Rattle.std.proofs.Common.{◌≡◌, ◌∙◌, sym, ap, refl, ℕ, true, false, cond, List, map}
 use Rattle.std.specs.Prelude.{None, Result, Ok, Err, IfOk}
-use Rattle.collections.specs.Documents.{Edit}
+use Rattle.document_store.specs.Documents.{Edit}
 use Rattle.ft_base.specs.declared.memory.Memory.{Memory}
 use Rattle.kept_plans.specs.Kept.{Kept, all_used}
 use Rattle.kept_plans.specs.Preparation.{Preparation, with_kept}
@@ -9,8 +9,8 @@ use Rattle.path_meaning.specs.Collection.{Named}
 use Rattle.path_subset.specs.Answer.{path_read}
 use Rattle.path_subset.specs.Paths.{PathForm}
 use Rattle.plan_runs.specs.Judgement.{Judgement}
-use Rattle.command_replies.specs.Replies.{is_refusal}
-use Rattle.command_replies.specs.declared.reply.Reply.{Reply}
+use Rattle.reply_lines.specs.Replies.{is_refusal}
+use Rattle.reply_lines.specs.declared.reply.Reply.{Reply}
 use Rattle.session_state.specs.declared.edit.Targets.{Targets}
 use Rattle.session_state.specs.declared.planned.PlannedPath.{PlannedPath}
 use Rattle.session_state.specs.Edits.{edit_path, edit_placed, edit_read, edit_selected, stays_if_refused, target_refusal, touched_path, touched_placed, touched_read}

@@ -7,7 +7,7 @@ use Rattle.std.specs.Str.{bytes_eq}
 use Rattle.std.proofs.lemmas.Bool.{eq-eqb, ne_eqb}
 use Rattle.std.proofs.lemmas.List.Sums.{sum_by-cons}
 use Rattle.std.proofs.lemmas.Map.Keys.{IsDistinct-head, IsDistinct-tail}
-use Rattle.collections.specs.Documents.{edited_documents, without, Edit}
+use Rattle.document_store.specs.Documents.{edited_documents, without, Edit}
 use Rattle.path_meaning.specs.Collection.{Named}
 use Rattle.stamped_documents.specs.Stamps.{renewed, restamped, without_stamp}
 use Rattle.standing_queries.specs.Answers.{all_lines, answers_of, kept_under, stamps_of, Answers}

@@ -5,14 +5,14 @@ use Rattle.std.specs.List.{AllByRecursion}
 use Rattle.std.specs.Map.{lookup, remove_entry}
 use Rattle.std.specs.Str.{bytes_eq}
 use Rattle.std.proofs.lemmas.List.{length-map, map_push}
-use Rattle.collections.specs.Indexed.{Indexed}
+use Rattle.document_store.specs.Indexed.{Indexed}
 use Rattle.ft_base.specs.Limits.{max_marks}
 use Rattle.ft_base.specs.declared.memory.Memory.{Memory}
 use Rattle.path_meaning.specs.Collection.{Named}
-use Rattle.command_replies.specs.declared.reply.FullOf.TheVariants as full
-use Rattle.command_replies.specs.declared.reply.Refusal.TheVariants as refusal
-use Rattle.command_replies.specs.declared.reply.Reply.{Reply}
-use Rattle.command_replies.specs.declared.reply.Reply.TheVariants.{Done, Refused}
+use Rattle.reply_lines.specs.declared.reply.FullOf.TheVariants as full
+use Rattle.reply_lines.specs.declared.reply.Refusal.TheVariants as refusal
+use Rattle.reply_lines.specs.declared.reply.Reply.{Reply}
+use Rattle.reply_lines.specs.declared.reply.Reply.TheVariants.{Done, Refused}
 use Rattle.session_state.specs.KeptMarks.{marks_of, to_mark, versions_of, IsOwnIndex}
 use Rattle.session_state.specs.Marks.{has_mark, mark_named, mark_put, mark_taken, version_of_mark, without_mark, AreIndexesOf}
 use Rattle.session_state.specs.State.{Mark}

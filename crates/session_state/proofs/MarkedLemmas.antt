@@ -6,12 +6,12 @@ use Rattle.std.proofs.Math.ListN.{get_or-map}
 use Rattle.std.proofs.lemmas.List.{at_drop_more, drop_all, length-map}
 use Rattle.std.proofs.lemmas.Option.{same_Some, slice_get-map}
 use Rattle.best_hits.specs.Showable.{can_show}
-use Rattle.collections.specs.Indexed.{Indexed}
-use Rattle.command_replies.specs.declared.reply.Refusal.{Refusal}
-use Rattle.command_replies.specs.declared.reply.Refusal.TheVariants as refusal
-use Rattle.command_replies.specs.declared.reply.Reply.{Reply}
-use Rattle.command_replies.specs.declared.reply.Reply.TheVariants as reply
-use Rattle.command_replies.specs.declared.reply.Reply.TheVariants.{Refused}
+use Rattle.document_store.specs.Indexed.{Indexed}
+use Rattle.reply_lines.specs.declared.reply.Refusal.{Refusal}
+use Rattle.reply_lines.specs.declared.reply.Refusal.TheVariants as refusal
+use Rattle.reply_lines.specs.declared.reply.Reply.{Reply}
+use Rattle.reply_lines.specs.declared.reply.Reply.TheVariants as reply
+use Rattle.reply_lines.specs.declared.reply.Reply.TheVariants.{Refused}
 use Rattle.element_lines.specs.Lines.{element_line}
 use Rattle.ft_base.specs.Selection.{Form}
 use Rattle.ft_base.specs.declared.fault.QueryFault.{QueryFault}

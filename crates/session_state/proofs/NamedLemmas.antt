@@ -7,7 +7,7 @@ use Rattle.std.specs.Str.{bytes_eq}
 use Rattle.std.proofs.lemmas.Slice.Eq.{bytes_eq-Decides}
 use Rattle.path_meaning.specs.Collection.{Named}
 use Rattle.ordered_tree.specs.Numbered.{Numbered}
-use Rattle.collections.specs.Loaded.{LoadedTree, to_document, trees_of}
+use Rattle.document_store.specs.Loaded.{LoadedTree, to_document, trees_of}
 
 abbrev Entry : Type 0
 Entry = List ℕ × LoadedTree

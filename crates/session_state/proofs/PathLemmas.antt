@@ -46,10 +46,10 @@ use Rattle.session_state.specs.PlannedPaths.{is_meant, meant, plan_under, planne
 use Rattle.session_state.specs.ReadyPaths.{path_refusal, IsReadyPath}
 use Rattle.session_state.specs.declared.paths.ReadyPath.{ReadyPath}
 use Rattle.session_state.specs.State.{State}
-use Rattle.collections.specs.Documents.{has_name}
-use Rattle.command_replies.specs.declared.reply.Refusal.{Refusal}
-use Rattle.command_replies.specs.declared.reply.Refusal.TheVariants as refusal
-use Rattle.command_replies.specs.declared.reply.Reply.TheVariants.{Refused}
+use Rattle.document_store.specs.Documents.{has_name}
+use Rattle.reply_lines.specs.declared.reply.Refusal.{Refusal}
+use Rattle.reply_lines.specs.declared.reply.Refusal.TheVariants as refusal
+use Rattle.reply_lines.specs.declared.reply.Reply.TheVariants.{Refused}
 use Rattle.session_state.specs.declared.planned.PlannedPath.{PlannedPath}
 use Rattle.session_state.specs.declared.shown.Shown.{Shown}
 use Rattle.session_state.specs.declared.shown.Shown.TheVariants.{Names, Texts}

@@ -5,9 +5,9 @@ use Rattle.ft_base.specs.Selection.{Form}
 use Rattle.path_subset.specs.Answer.{path_read}
 use Rattle.path_subset.specs.Paths.{PathForm}
 use Rattle.plan_runs.specs.Judgement.{Judgement}
-use Rattle.command_replies.specs.declared.command.Command.TheVariants.{Query, Show}
-use Rattle.command_replies.specs.declared.reply.Refusal.TheVariants.{NothingToShow}
-use Rattle.command_replies.specs.declared.reply.Reply.TheVariants.{Nodes, Refused, Shown}
+use Rattle.reply_lines.specs.declared.command.Command.TheVariants.{Query, Show}
+use Rattle.reply_lines.specs.declared.reply.Refusal.TheVariants.{NothingToShow}
+use Rattle.reply_lines.specs.declared.reply.Reply.TheVariants.{Nodes, Refused, Shown}
 use Rattle.session_state.specs.declared.shown.Shown.TheVariants.{Names}
 use Rattle.session_state.specs.MarkedWords.{answer_by, answer_marked_read, marked_for, shown_form}
 use Rattle.session_state.specs.Paths.{answer_read, lines_for, IsAnswered}

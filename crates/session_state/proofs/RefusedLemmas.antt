@@ -1,11 +1,11 @@
 -- A command that is refused leaves what is held as it is.
 use Rattle.std.proofs.Common.{◌≡◌, ◌∙◌, sym, ap, refl, ℕ, Bool, true, false, cond, ◌++◌, ◌∷◌, List, []}
 use Rattle.std.specs.Prelude.{nat_le, length, Option, Some, None, Result, Ok, Err, IfOk, ⊤}
-use Rattle.collections.specs.declared.fault.NotEdited.{NotEdited}
-use Rattle.collections.specs.declared.fault.NotLoaded.{NotLoaded}
-use Rattle.collections.specs.declared.fault.NotLoaded.TheVariants as unloaded
-use Rattle.collections.specs.declared.fault.NotRemoved.TheVariants.{NoSuchName}
-use Rattle.collections.specs.Documents.{added, changed_roots, dropped, edited_documents, edited_within, has_name, limit_of, loadable, loaded, or_limited, without, Edit}
+use Rattle.document_store.specs.declared.fault.NotEdited.{NotEdited}
+use Rattle.document_store.specs.declared.fault.NotLoaded.{NotLoaded}
+use Rattle.document_store.specs.declared.fault.NotLoaded.TheVariants as unloaded
+use Rattle.document_store.specs.declared.fault.NotRemoved.TheVariants.{NoSuchName}
+use Rattle.document_store.specs.Documents.{added, changed_roots, dropped, edited_documents, edited_within, has_name, limit_of, loadable, loaded, or_limited, without, Edit}
 use Rattle.doc_profile.specs.Readings.{fragment_of}
 use Rattle.doc_profile.specs.declared.fault.DocFault.{DocFault}
 use Rattle.ft_base.specs.Limits.{max_documents, max_marks}
@@ -18,15 +18,15 @@ use Rattle.plain_tree.specs.Document.{Node, nodes}
 use Rattle.plain_tree.specs.declared.place.How.{How}
 use Rattle.plan_compiler.specs.NamedLists.{NamedLists}
 use Rattle.plan_runs.specs.Judgement.{Judgement}
-use Rattle.command_replies.specs.Replies.{is_refusal}
-use Rattle.command_replies.specs.declared.command.Command.{Command}
-use Rattle.command_replies.specs.declared.command.Command.TheVariants as command
-use Rattle.command_replies.specs.declared.reply.FullOf.TheVariants as full
-use Rattle.command_replies.specs.declared.reply.Refusal.{Refusal}
-use Rattle.command_replies.specs.declared.reply.Refusal.TheVariants as refusal
-use Rattle.command_replies.specs.declared.reply.Reply.{Reply}
-use Rattle.command_replies.specs.declared.reply.Reply.TheVariants as reply
-use Rattle.command_replies.specs.declared.reply.Reply.TheVariants.{Done, Refused}
+use Rattle.reply_lines.specs.Replies.{is_refusal}
+use Rattle.reply_lines.specs.declared.command.Command.{Command}
+use Rattle.reply_lines.specs.declared.command.Command.TheVariants as command
+use Rattle.reply_lines.specs.declared.reply.FullOf.TheVariants as full
+use Rattle.reply_lines.specs.declared.reply.Refusal.{Refusal}
+use Rattle.reply_lines.specs.declared.reply.Refusal.TheVariants as refusal
+use Rattle.reply_lines.specs.declared.reply.Reply.{Reply}
+use Rattle.reply_lines.specs.declared.reply.Reply.TheVariants as reply
+use Rattle.reply_lines.specs.declared.reply.Reply.TheVariants.{Done, Refused}
 use Rattle.session_state.specs.declared.edit.Targets.{Targets}
 use Rattle.session_state.specs.declared.edit.Targets.TheVariants.{One, Any}
 use Rattle.session_state.specs.declared.shown.Shown.TheVariants.{Names, Texts}

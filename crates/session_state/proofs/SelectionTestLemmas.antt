@@ -37,7 +37,7 @@ use Rattle.session_state.specs.IgnoredText.{tokens_left}
 use Rattle.session_state.specs.PathPrices.{are_cheap, element_price, words_of as element_words}
 use Rattle.session_state.specs.PlannedPaths.{is_meant, meant, run_meant, run_over, run_price}
 use Rattle.session_state.specs.SelectionTests.{asked_of, is_there, may_ask, span_among, span_at, where_cheap, AreOver, AreOverEach}
-use Rattle.collections.specs.Indexed.{FollowsEach}
+use Rattle.document_store.specs.Indexed.{FollowsEach}
 use Rattle.session_state.proofs.TextLemmas.{nothing-ignored, tokens-at-span}
 
 -- the node that a reference names

@@ -4,12 +4,12 @@ use Rattle.std.specs.Prelude.{Option, Some, None, Result, Ok, Err, IfOk, OnOk, O
 use Rattle.std.specs.List.{flat_map, sum_by, AllByRecursion}
 use Rattle.std.specs.Str.{bytes_eq}
 use Rattle.std.proofs.lemmas.List.{length-map}
-use Rattle.collections.specs.Documents.{added, dropped, edited_documents, edited_within, changed_roots, has_name, limit_of, loaded, or_limited, without, Edit}
-use Rattle.collections.specs.declared.fault.NotEdited.{NotEdited}
-use Rattle.collections.specs.declared.fault.NotLoaded.{NotLoaded}
-use Rattle.collections.specs.declared.fault.NotLoaded.TheVariants as unloaded
-use Rattle.collections.specs.declared.fault.NotRemoved.{NotRemoved}
-use Rattle.collections.specs.declared.fault.NotRemoved.TheVariants as unremoved
+use Rattle.document_store.specs.Documents.{added, dropped, edited_documents, edited_within, changed_roots, has_name, limit_of, loaded, or_limited, without, Edit}
+use Rattle.document_store.specs.declared.fault.NotEdited.{NotEdited}
+use Rattle.document_store.specs.declared.fault.NotLoaded.{NotLoaded}
+use Rattle.document_store.specs.declared.fault.NotLoaded.TheVariants as unloaded
+use Rattle.document_store.specs.declared.fault.NotRemoved.{NotRemoved}
+use Rattle.document_store.specs.declared.fault.NotRemoved.TheVariants as unremoved
 use Rattle.indexmap.specs.IndexMap.{insert_entry}
 use Rattle.ft_base.specs.Limits.{max_documents}
 use Rattle.ft_base.specs.declared.memory.Memory.{Memory}
@@ -29,9 +29,9 @@ use Rattle.plan_runs.specs.Judgement.{Judgement}
 use Rattle.stamped_documents.specs.Stamped.{StampedDocuments}
 use Rattle.stamped_documents.specs.Stamps.{renewed, restamped, without_stamp, AreStamps}
 use Rattle.standing_queries.specs.Answers.{Answers}
-use Rattle.command_replies.specs.Replies.{is_refusal}
-use Rattle.command_replies.specs.declared.reply.Refusal.{Refusal}
-use Rattle.command_replies.specs.declared.reply.Reply.{Reply}
+use Rattle.reply_lines.specs.Replies.{is_refusal}
+use Rattle.reply_lines.specs.declared.reply.Refusal.{Refusal}
+use Rattle.reply_lines.specs.declared.reply.Reply.{Reply}
 use Rattle.session_state.specs.declared.planned.PlannedPath.{PlannedPath}
 use Rattle.session_state.specs.declared.shown.Shown.TheVariants.{Names}
 use Rattle.session_state.specs.declared.watches.KeptWatch.{KeptWatch}

@@ -3,17 +3,17 @@ use Rattle.std.proofs.Common.{◌≡◌, ◌∙◌, sym, ap, refl, subst, ℕ, t
 use Rattle.std.specs.Prelude.{Option, Some, None, Result, Ok, Err, IfOk}
 use Rattle.std.specs.Map.{lookup}
 use Rattle.std.specs.Str.{bytes_eq}
-use Rattle.collections.specs.Indexed.{Indexed}
+use Rattle.document_store.specs.Indexed.{Indexed}
 use Rattle.ft_base.specs.declared.fault.QueryFault.{QueryFault}
 use Rattle.ft_base.specs.declared.memory.Memory.{Memory}
 use Rattle.kept_plans.specs.Preparation.{Preparation, with_kept}
 use Rattle.path_subset.specs.Answer.{path_read}
 use Rattle.path_subset.specs.Paths.{PathForm}
 use Rattle.plan_runs.specs.Judgement.{Judgement}
-use Rattle.command_replies.specs.Replies.{is_refusal}
-use Rattle.command_replies.specs.declared.reply.Refusal.TheVariants as refusal
-use Rattle.command_replies.specs.declared.reply.Reply.{Reply}
-use Rattle.command_replies.specs.declared.reply.Reply.TheVariants.{Refused}
+use Rattle.reply_lines.specs.Replies.{is_refusal}
+use Rattle.reply_lines.specs.declared.reply.Refusal.TheVariants as refusal
+use Rattle.reply_lines.specs.declared.reply.Reply.{Reply}
+use Rattle.reply_lines.specs.declared.reply.Reply.TheVariants.{Refused}
 use Rattle.session_state.specs.declared.shown.Shown.{Shown}
 use Rattle.session_state.specs.declared.shown.Shown.TheVariants.{Names}
 use Rattle.session_state.specs.Held.{Held}

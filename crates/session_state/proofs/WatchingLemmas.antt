@@ -17,11 +17,11 @@ use Rattle.plan_compiler.specs.NamedLists.{NamedLists}
 use Rattle.plan_runs.specs.Judgement.{Judgement}
 use Rattle.stamped_documents.specs.Stamped.{StampedDocuments}
 use Rattle.stamped_documents.specs.Stamps.{AreStamps}
-use Rattle.command_replies.specs.declared.reply.Refusal.{Refusal}
-use Rattle.command_replies.specs.declared.reply.Refusal.TheVariants as refusal
-use Rattle.command_replies.specs.declared.reply.Reply.{Reply}
-use Rattle.command_replies.specs.declared.reply.Reply.TheVariants as reply
-use Rattle.command_replies.specs.declared.reply.Reply.TheVariants.{Done, Refused}
+use Rattle.reply_lines.specs.declared.reply.Refusal.{Refusal}
+use Rattle.reply_lines.specs.declared.reply.Refusal.TheVariants as refusal
+use Rattle.reply_lines.specs.declared.reply.Reply.{Reply}
+use Rattle.reply_lines.specs.declared.reply.Reply.TheVariants as reply
+use Rattle.reply_lines.specs.declared.reply.Reply.TheVariants.{Done, Refused}
 use Rattle.standing_queries.specs.Answers.{all_lines, Answers}
 use Rattle.standing_queries.specs.Changes.{changes}
 use Rattle.session_state.specs.declared.shown.Shown.TheVariants.{Names}

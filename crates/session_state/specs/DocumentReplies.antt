@@ -1,19 +1,19 @@
 -- The replies to commands that change documents, by what the collection answers.
 use Rattle.std.specs.Prelude.{ℕ, List, Result, Ok, Err, ⊤}
-use Rattle.collections.specs.declared.fault.NotEdited.{NotEdited}
-use Rattle.collections.specs.declared.fault.NotEdited.TheVariants as unedited
-use Rattle.collections.specs.declared.fault.NotLoaded.{NotLoaded}
-use Rattle.collections.specs.declared.fault.NotLoaded.TheVariants as unloaded
-use Rattle.collections.specs.declared.fault.NotRemoved.{NotRemoved}
-use Rattle.collections.specs.declared.fault.NotRemoved.TheVariants as unremoved
+use Rattle.document_store.specs.declared.fault.NotEdited.{NotEdited}
+use Rattle.document_store.specs.declared.fault.NotEdited.TheVariants as unedited
+use Rattle.document_store.specs.declared.fault.NotLoaded.{NotLoaded}
+use Rattle.document_store.specs.declared.fault.NotLoaded.TheVariants as unloaded
+use Rattle.document_store.specs.declared.fault.NotRemoved.{NotRemoved}
+use Rattle.document_store.specs.declared.fault.NotRemoved.TheVariants as unremoved
 use Rattle.path_meaning.specs.Collection.{Named}
-use Rattle.command_replies.specs.declared.reply.FullOf.TheVariants as full
-use Rattle.command_replies.specs.declared.reply.LimitOf.{LimitOf}
-use Rattle.command_replies.specs.declared.reply.LimitOf.TheVariants as limit
-use Rattle.command_replies.specs.declared.reply.Refusal.{Refusal}
-use Rattle.command_replies.specs.declared.reply.Refusal.TheVariants as refusal
-use Rattle.command_replies.specs.declared.reply.Reply.{Reply}
-use Rattle.command_replies.specs.declared.reply.Reply.TheVariants.{Done, Refused}
+use Rattle.reply_lines.specs.declared.reply.FullOf.TheVariants as full
+use Rattle.reply_lines.specs.declared.reply.LimitOf.{LimitOf}
+use Rattle.reply_lines.specs.declared.reply.LimitOf.TheVariants as limit
+use Rattle.reply_lines.specs.declared.reply.Refusal.{Refusal}
+use Rattle.reply_lines.specs.declared.reply.Refusal.TheVariants as refusal
+use Rattle.reply_lines.specs.declared.reply.Reply.{Reply}
+use Rattle.reply_lines.specs.declared.reply.Reply.TheVariants.{Done, Refused}
 
 -- why no document is loaded under that name
 abbrev pub load_refusal : List ℕ → NotLoaded → Refusal

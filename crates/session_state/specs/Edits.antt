@@ -2,7 +2,7 @@
 use Rattle.std.specs.Prelude.{ℕ, ◌==◌, Bool, true, false, ◌&&◌, not, nat_lt, if◌then◌else◌, List, [], length, map, bytes_eq}
 use Rattle.std.specs.Prelude.{Option, Some, None, Result, Ok, Err}
 use Rattle.std.specs.List.{list_any, sum_by}
-use Rattle.collections.specs.Documents.{Edit, edited_within, touched_in}
+use Rattle.document_store.specs.Documents.{Edit, edited_within, touched_in}
 use Rattle.doc_profile.specs.Readings.{fragment_of}
 use Rattle.doc_profile.specs.declared.fault.DocFault.{DocFault}
 use Rattle.ft_base.specs.Lists.{is_empty}
@@ -15,10 +15,10 @@ use Rattle.path_subset.specs.Paths.{PathForm}
 use Rattle.plain_tree.specs.Document.{Node, nodes, no_nodes}
 use Rattle.plain_tree.specs.declared.place.How.{How}
 use Rattle.plan_runs.specs.Judgement.{Judgement}
-use Rattle.command_replies.specs.declared.reply.Refusal.{Refusal}
-use Rattle.command_replies.specs.declared.reply.Refusal.TheVariants as refusal
-use Rattle.command_replies.specs.declared.reply.Reply.{Reply}
-use Rattle.command_replies.specs.declared.reply.Reply.TheVariants.{Refused}
+use Rattle.reply_lines.specs.declared.reply.Refusal.{Refusal}
+use Rattle.reply_lines.specs.declared.reply.Refusal.TheVariants as refusal
+use Rattle.reply_lines.specs.declared.reply.Reply.{Reply}
+use Rattle.reply_lines.specs.declared.reply.Reply.TheVariants.{Refused}
 use Rattle.tree_edits.specs.Acts.{stays}
 use Rattle.session_state.specs.declared.edit.Targets.{Targets}
 use Rattle.session_state.specs.declared.edit.Targets.TheVariants.{One, Any}

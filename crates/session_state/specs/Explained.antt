@@ -5,9 +5,9 @@ use Rattle.ft_base.specs.declared.fault.QueryFault.{QueryFault}
 use Rattle.ft_parser.specs.Answer.{selection_read}
 use Rattle.ft_rewriter.specs.Rewriting.{rewritten}
 use Rattle.ft_syntax.specs.Symbols.{printed}
-use Rattle.command_replies.specs.declared.reply.Refusal.TheVariants as refusal
-use Rattle.command_replies.specs.declared.reply.Reply.{Reply}
-use Rattle.command_replies.specs.declared.reply.Reply.TheVariants as reply
+use Rattle.reply_lines.specs.declared.reply.Refusal.TheVariants as refusal
+use Rattle.reply_lines.specs.declared.reply.Reply.{Reply}
+use Rattle.reply_lines.specs.declared.reply.Reply.TheVariants as reply
 
 abbrev pub explained_read : Result Form QueryFault → Reply
 explained_read (Err fault) = reply.Refused (refusal.Query fault)

@@ -1,8 +1,8 @@
 -- Marks as the code holds them: names, each with the collection that is kept under it.
 use Rattle.std.specs.Prelude.{ℕ, List, map}
 use Rattle.std.specs.Coded.{Coded, coded×, coded_list, coded_ℕ}
-use Rattle.collections.specs.Indexed.{Indexed, IsIndexOf}
-use Rattle.collections.specs.StoredIndexed.{indexed_code}
+use Rattle.document_store.specs.Indexed.{Indexed, IsIndexOf}
+use Rattle.document_store.specs.StoredIndexed.{indexed_code}
 use Rattle.index_meaning.specs.Documents.{Numbered}
 use Rattle.session_state.specs.State.{Mark}
 

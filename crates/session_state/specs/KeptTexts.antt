@@ -6,8 +6,8 @@ use Rattle.kept_plans.specs.Preparation.{Preparation, with_kept}
 use Rattle.path_subset.specs.Answer.{path_read}
 use Rattle.path_subset.specs.Paths.{PathForm}
 use Rattle.path_subset.specs.declared.path.Extent.{Extent}
-use Rattle.command_replies.specs.Replies.{is_refusal}
-use Rattle.command_replies.specs.declared.reply.Reply.{Reply}
+use Rattle.reply_lines.specs.Replies.{is_refusal}
+use Rattle.reply_lines.specs.declared.reply.Reply.{Reply}
 use Rattle.session_state.specs.State.{State}
 
 -- what stands at an extent of a text

@@ -4,12 +4,12 @@ use Rattle.std.specs.Option.{is_some}
 use Rattle.ft_base.specs.declared.fault.ListFault.{ListFault}
 use Rattle.ft_base.specs.declared.fault.ListFault.TheVariants.{BadLine, Memory}
 use Rattle.plan_compiler.specs.NamedLists.{NamedLists, list_named, with_stems, with_stop_list, with_thesaurus}
-use Rattle.command_replies.specs.declared.reply.FullOf.TheVariants as full
-use Rattle.command_replies.specs.declared.reply.Refusal.TheVariants as refusal
-use Rattle.command_replies.specs.declared.reply.Reply.{Reply}
-use Rattle.command_replies.specs.declared.reply.Reply.TheVariants.{Done, Refused}
+use Rattle.reply_lines.specs.declared.reply.FullOf.TheVariants as full
+use Rattle.reply_lines.specs.declared.reply.Refusal.TheVariants as refusal
+use Rattle.reply_lines.specs.declared.reply.Reply.{Reply}
+use Rattle.reply_lines.specs.declared.reply.Reply.TheVariants.{Done, Refused}
 use Rattle.kept_plans.specs.Preparation.{Preparation, with_new_lists}
-use Rattle.command_replies.specs.Replies.{is_refusal}
+use Rattle.reply_lines.specs.Replies.{is_refusal}
 use Rattle.thesaurus_file.specs.Links.{Links}
 use Rattle.word_lists.specs.Stems.{Stem}
 use Rattle.ft_base.specs.Limits.{max_lists}

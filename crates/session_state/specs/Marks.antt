@@ -2,14 +2,14 @@
 use Rattle.std.specs.Prelude.{ℕ, Bool, nat_le, if◌then◌else◌, List, [], ◌∷◌, ◌++◌, length, find, Option, ⊤}
 use Rattle.std.specs.List.{list_any}
 use Rattle.std.specs.Str.{bytes_eq}
-use Rattle.collections.specs.Indexed.{IsIndexOf}
+use Rattle.document_store.specs.Indexed.{IsIndexOf}
 use Rattle.ft_base.specs.Limits.{max_marks}
 use Rattle.index_meaning.specs.Documents.{Numbered}
 use Rattle.path_meaning.specs.Collection.{Named}
-use Rattle.command_replies.specs.declared.reply.FullOf.TheVariants as full
-use Rattle.command_replies.specs.declared.reply.Refusal.TheVariants as refusal
-use Rattle.command_replies.specs.declared.reply.Reply.{Reply}
-use Rattle.command_replies.specs.declared.reply.Reply.TheVariants.{Done, Refused}
+use Rattle.reply_lines.specs.declared.reply.FullOf.TheVariants as full
+use Rattle.reply_lines.specs.declared.reply.Refusal.TheVariants as refusal
+use Rattle.reply_lines.specs.declared.reply.Reply.{Reply}
+use Rattle.reply_lines.specs.declared.reply.Reply.TheVariants.{Done, Refused}
 use Rattle.session_state.specs.State.{State, Mark}
 
 abbrev pub has_mark : List ℕ → List Mark → Bool

@@ -18,8 +18,8 @@ use Rattle.plan_compiler.specs.CheapSelections.{is_cheap}
 use Rattle.plan_compiler.specs.Lexicon.{lexicon}
 use Rattle.plan_compiler.specs.NamedLists.{NamedLists}
 use Rattle.plan_runs.specs.RunPrice.{price}
-use Rattle.command_replies.specs.declared.command.Command.{Command}
-use Rattle.command_replies.specs.declared.command.Command.TheVariants as command
+use Rattle.reply_lines.specs.declared.command.Command.{Command}
+use Rattle.reply_lines.specs.declared.command.Command.TheVariants as command
 use Rattle.tokenizer.specs.Tokens.{words_in}
 use Rattle.session_state.specs.Held.{Held}
 use Rattle.session_state.specs.Marks.{at_mark, mark_named, version_of_mark}

@@ -14,14 +14,14 @@ use Rattle.plain_tree.specs.Document.{Node}
 use Rattle.plan_runs.specs.Judgement.{Judgement}
 use Rattle.plan_compiler.specs.Missing.{missing_among, names}
 use Rattle.plan_compiler.specs.NamedLists.{NamedLists}
-use Rattle.command_replies.specs.declared.reply.Refusal.{Refusal}
-use Rattle.command_replies.specs.declared.reply.Refusal.TheVariants as refusal
-use Rattle.command_replies.specs.declared.reply.Reply.{Reply}
-use Rattle.command_replies.specs.declared.reply.Reply.TheVariants as reply
-use Rattle.command_replies.specs.declared.reply.Reply.TheVariants.{Refused}
+use Rattle.reply_lines.specs.declared.reply.Refusal.{Refusal}
+use Rattle.reply_lines.specs.declared.reply.Refusal.TheVariants as refusal
+use Rattle.reply_lines.specs.declared.reply.Reply.{Reply}
+use Rattle.reply_lines.specs.declared.reply.Reply.TheVariants as reply
+use Rattle.reply_lines.specs.declared.reply.Reply.TheVariants.{Refused}
 use Rattle.session_state.specs.declared.shown.Shown.{Shown}
 use Rattle.session_state.specs.declared.shown.Shown.TheVariants.{Names, Texts}
-use Rattle.collections.specs.Documents.{has_name}
+use Rattle.document_store.specs.Documents.{has_name}
 use Rattle.session_state.specs.IgnoredText.{tokens_left}
 use Rattle.session_state.specs.State.{State}
 

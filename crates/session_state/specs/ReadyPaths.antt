@@ -7,10 +7,10 @@ use Rattle.path_meaning.specs.Collection.{Named}
 use Rattle.path_subset.specs.Answer.{path_read}
 use Rattle.path_subset.specs.Paths.{PathForm, read_form}
 use Rattle.plan_compiler.specs.NamedLists.{NamedLists}
-use Rattle.command_replies.specs.Replies.{is_refusal}
-use Rattle.command_replies.specs.declared.reply.Refusal.{Refusal}
-use Rattle.command_replies.specs.declared.reply.Refusal.TheVariants as refusal
-use Rattle.command_replies.specs.declared.reply.Reply.{Reply}
+use Rattle.reply_lines.specs.Replies.{is_refusal}
+use Rattle.reply_lines.specs.declared.reply.Refusal.{Refusal}
+use Rattle.reply_lines.specs.declared.reply.Refusal.TheVariants as refusal
+use Rattle.reply_lines.specs.declared.reply.Reply.{Reply}
 use Rattle.session_state.specs.declared.paths.PlanFault.{PlanFault}
 use Rattle.session_state.specs.declared.paths.PlanFault.TheVariants as fault
 use Rattle.session_state.specs.declared.paths.Ready.{Ready}

@@ -5,8 +5,8 @@ use Rattle.ft_base.specs.declared.fault.QueryFault.{QueryFault}
 use Rattle.path_subset.specs.Answer.{path_read}
 use Rattle.path_subset.specs.Paths.{PathForm}
 use Rattle.plan_runs.specs.Judgement.{Judgement}
-use Rattle.command_replies.specs.declared.command.Command.{Command}
-use Rattle.command_replies.specs.declared.command.Command.TheVariants as command
+use Rattle.reply_lines.specs.declared.command.Command.{Command}
+use Rattle.reply_lines.specs.declared.command.Command.TheVariants as command
 use Rattle.stamped_documents.specs.Stamps.{without_stamp}
 use Rattle.standing_queries.specs.Answers.{Answers}
 use Rattle.session_state.specs.Edits.{places_selected}

@@ -3,7 +3,7 @@ use Rattle.std.specs.Prelude.{ℕ, List, []}
 use Rattle.kept_plans.specs.Kept.{Kept, nothing_kept}
 use Rattle.path_meaning.specs.Collection.{Named}
 use Rattle.plan_compiler.specs.NamedLists.{NamedLists, no_lists}
-use Rattle.command_replies.specs.declared.reply.Reply.{Reply}
+use Rattle.reply_lines.specs.declared.reply.Reply.{Reply}
 
 -- a mark: the documents as they were when it was set, with the abbreviations of then, under a name
 pub record Mark : Type 0 where

@@ -1,6 +1,6 @@
 -- Documents and lists as a state without marks and watches, in which nothing is kept, and with their version as what a session holds.
 use Rattle.std.specs.Prelude.{[]}
-use Rattle.collections.specs.Indexed.{Indexed}
+use Rattle.document_store.specs.Indexed.{Indexed}
 use Rattle.kept_plans.specs.Kept.{nothing_kept}
 use Rattle.kept_plans.specs.Preparation.{Preparation}
 use Rattle.plan_compiler.specs.NamedLists.{NamedLists}

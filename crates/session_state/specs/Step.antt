@@ -1,16 +1,16 @@
 -- What a command does to what a session holds.
 use Rattle.std.specs.Prelude.{ℕ, Bool, true, false, if◌then◌else◌, List, [], ◌∷◌, Option, Some, None}
-use Rattle.collections.specs.Documents.{dropped, loadable, loaded, tokens_loaded, tokens_named}
+use Rattle.document_store.specs.Documents.{dropped, loadable, loaded, tokens_loaded, tokens_named}
 use Rattle.doc_profile.specs.Readings.{fragment_of}
 use Rattle.kept_plans.specs.Kept.{emptied}
 use Rattle.plan_runs.specs.Judgement.{Judgement}
 use Rattle.plan_compiler.specs.NamedLists.{NamedLists}
-use Rattle.command_replies.specs.Replies.{is_refusal}
-use Rattle.command_replies.specs.declared.command.Command.{Command}
-use Rattle.command_replies.specs.declared.command.Command.TheVariants as command
-use Rattle.command_replies.specs.declared.reply.Refusal.TheVariants as refusal
-use Rattle.command_replies.specs.declared.reply.Reply.{Reply}
-use Rattle.command_replies.specs.declared.reply.Reply.TheVariants.{Refused}
+use Rattle.reply_lines.specs.Replies.{is_refusal}
+use Rattle.reply_lines.specs.declared.command.Command.{Command}
+use Rattle.reply_lines.specs.declared.command.Command.TheVariants as command
+use Rattle.reply_lines.specs.declared.reply.Refusal.TheVariants as refusal
+use Rattle.reply_lines.specs.declared.reply.Reply.{Reply}
+use Rattle.reply_lines.specs.declared.reply.Reply.TheVariants.{Refused}
 use Rattle.thesaurus_file.specs.Lines.{thesaurus_of}
 use Rattle.word_lists.specs.Stems.{stems_of}
 use Rattle.word_lists.specs.KeySets.{key_set_of}

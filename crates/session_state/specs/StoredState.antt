@@ -1,7 +1,7 @@
 -- How states and versions are stored, by which proofs tell them apart.
 use Rattle.std.specs.Prelude.{ℕ, List, refl}
 use Rattle.std.specs.Coded.{Coded, code_by, coded×, coded_list, coded_ℕ}
-use Rattle.collections.specs.StoredIndexed.{document_code}
+use Rattle.document_store.specs.StoredIndexed.{document_code}
 use Rattle.index_meaning.specs.Documents.{Numbered}
 use Rattle.kept_plans.specs.Kept.{Kept}
 use Rattle.kept_plans.specs.Codes.{kept_code}

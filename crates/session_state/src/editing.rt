@@ -1,14 +1,14 @@
 //! Edits of the elements that a path selects.
 
 ghost use Rattle.std.specs.Prelude.{◌≡◌, ◌≤◌, ◌+◌, false, IfOk, None, OnErr, map, true};
-ghost use Rattle.collections.specs.Documents.{edited_within, touched_in};
-ghost use Rattle.collections.specs.Targets.{places_of_targets, AreTargets};
+ghost use Rattle.document_store.specs.Documents.{edited_within, touched_in};
+ghost use Rattle.document_store.specs.Targets.{places_of_targets, AreTargets};
 ghost use Rattle.path_meaning.specs.Collection.{documents as documents_of};
 ghost use Rattle.session_state.specs.DocumentReplies.{edit_refusal, replied_by};
 ghost use Rattle.session_state.specs.Edits.{edit_placed, has_root, is_one, target_count, target_refusal, targets_refused, touched_placed};
 ghost use Rattle.session_state.specs.PlannedPaths.{prices_in, run_over, HasItsPlans, has_cheap_plans};
 ghost use Rattle.session_state.specs.steps.Chosen.{edit_of, planned_places};
-ghost use Rattle.command_replies.specs.Replies.{is_refusal};
+ghost use Rattle.reply_lines.specs.Replies.{is_refusal};
 ghost use Rattle.stamped_documents.specs.Stamps.{restamped};
 ghost use Rattle.tree_edits.specs.Acts.{stays as does_stay};
 
@@ -17,11 +17,11 @@ use crate::edit::{Edit, Targets};
 use crate::planned::{PlannedPath, open_runs};
 use crate::refusing::refuse_edit;
 use crate::targets::{Chosen, choose};
-use collections::Collection;
-use command_replies::{Refusal, Reply};
+use document_store::Collection;
 use ft_base::{Memory, Steps};
 use plain_tree::How;
 use plan_runs::Judge;
+use reply_lines::{Refusal, Reply};
 use stamped_documents::Stamped;
 use std::marker::Brand;
 use std::sync::ledger::Ledger;

@@ -6,11 +6,11 @@ ghost use Rattle.ft_syntax.specs.View.{form};
 ghost use Rattle.session_state.specs.Explained as spec;
 
 use crate::paths::refuse;
-use command_replies::Reply;
 use ft_base::Memory;
 use ft_parser::read_selection;
 use ft_rewriter::rewrite;
 use ft_syntax::{Selection, print_selection};
+use reply_lines::Reply;
 use std::alloc::Global;
 
 /// The rewritten selection, printed, or the first fault of a text that is none. No list is looked at.

@@ -1,7 +1,7 @@
 //! Commands that change what a session holds and have no path: they bring documents, abbreviations, lists and marks, and take them away.
 
 ghost use Rattle.std.specs.Prelude.{◌≡◌, ◌≤◌, ◌+◌, false, if◌then◌else◌, length, IfOk, OnErr, true};
-ghost use Rattle.collections.specs.Documents.{dropped, loadable, loaded, tokens_loaded, tokens_named};
+ghost use Rattle.document_store.specs.Documents.{dropped, loadable, loaded, tokens_loaded, tokens_named};
 ghost use Rattle.session_state.specs.Abbreviations.{abbreviations_put};
 ghost use Rattle.session_state.specs.DocumentReplies.{load_refusal, removal_refusal, replied_by};
 ghost use Rattle.session_state.specs.Lists.{stems_put, stop_list_put, thesaurus_put};
@@ -11,7 +11,7 @@ ghost use Rattle.session_state.specs.State.{with_documents};
 ghost use Rattle.session_state.specs.Stats as held;
 ghost use Rattle.session_state.specs.Step.{with_lists};
 ghost use Rattle.session_state.specs.steps.Renewed.{with_renewed};
-ghost use Rattle.command_replies.specs.Replies.{is_refusal};
+ghost use Rattle.reply_lines.specs.Replies.{is_refusal};
 ghost use Rattle.stamped_documents.specs.Stamps.{without_stamp};
 ghost use Rattle.thesaurus_file.specs.Lines.{thesaurus_of};
 ghost use Rattle.word_lists.specs.Stems.{stems_of};
@@ -21,9 +21,9 @@ use crate::lists::{put_stems, put_stop_list, put_thesaurus, refuse_list};
 use crate::refusing::{refuse_load, refuse_removal};
 use crate::session::Session;
 use crate::stats::counts;
-use command_replies::Reply;
 use ft_base::{Line, Memory, Steps};
 use plan_runs::Judge;
+use reply_lines::Reply;
 use stamped_documents::{Renewal, Stamped};
 use std::sync::ledger::Ledger;
 use word_lists::KeySet;

@@ -7,9 +7,9 @@ ghost use Rattle.kept_plans.specs.Next.{IsNext};
 ghost use Rattle.session_state.specs.KeptTexts.{kept_by};
 
 use crate::paths::ReadyPath;
-use command_replies::Reply;
 use ft_base::Memory;
 use kept_plans::Prepared;
+use reply_lines::Reply;
 
 /// Hands a reply on, and keeps the plans of its path where the command wasn't refused.
 pub(crate) fn keep_accepted(

@@ -6,9 +6,9 @@ ghost use Rattle.word_lists.specs.Stems.{stems_of};
 ghost use Rattle.word_lists.specs.KeySets.{key_set_of};
 ghost use Rattle.session_state.specs.Lists.{with_prepared, Answers, stems_put, stop_list_put, thesaurus_put};
 
-use command_replies::{FullOf, Refusal, Reply};
 use ft_base::{ListFault, MAX_LISTS, Memory};
 use kept_plans::Prepared;
+use reply_lines::{FullOf, Refusal, Reply};
 use std::alloc::Global;
 use thesaurus_file::Thesaurus;
 use word_lists::{KeySet, Stems};

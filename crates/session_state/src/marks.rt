@@ -5,12 +5,12 @@ ghost use Rattle.std.specs.Map.{lookup};
 ghost use Rattle.std.specs.Option.{option_copied};
 ghost use Rattle.session_state.specs.KeptMarks.{marks_of, versions_of};
 ghost use Rattle.session_state.specs.Marks.{mark_put, mark_taken, AreIndexesOf};
-ghost use Rattle.command_replies.specs.Replies.{is_refusal};
+ghost use Rattle.reply_lines.specs.Replies.{is_refusal};
 
-use collections::Collection;
-use command_replies::{FullOf, Refusal, Reply};
+use document_store::Collection;
 use ft_base::{Line, MAX_MARKS, Memory};
 use indexmap::IndexMap;
+use reply_lines::{FullOf, Refusal, Reply};
 use std::alloc::Global;
 use std::marker::Model;
 
@@ -24,7 +24,7 @@ pub(crate) struct Marks {
 impl Model for Marks {
     ghost use Rattle.std.specs.Prelude.{ℕ, List};
     ghost use Rattle.std.specs.List.{AllByRecursion};
-    ghost use Rattle.collections.specs.Indexed.{Indexed};
+    ghost use Rattle.document_store.specs.Indexed.{Indexed};
     ghost use Rattle.session_state.specs.KeptMarks.{marks_code, IsOwnIndex};
 
     ghost Value = { List (List ℕ × Indexed) };

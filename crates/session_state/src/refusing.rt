@@ -3,10 +3,10 @@
 ghost use Rattle.std.specs.Prelude.{◌≡◌, ◌≢◌, IfOk, OnOk};
 ghost use Rattle.session_state.specs.DocumentReplies.{edit_refusal, exceeded, load_refusal, removal_refusal};
 
-use collections::{NotEdited, NotLoaded, NotRemoved};
-use command_replies::{FullOf, LimitOf, Refusal, Reply};
 use doc_profile::DocFault;
+use document_store::{NotEdited, NotLoaded, NotRemoved};
 use ft_base::{Line, Memory};
+use reply_lines::{FullOf, LimitOf, Refusal, Reply};
 use std::alloc::Global;
 
 /// The refusal of a block with that fault. Want of memory is none.

@@ -8,12 +8,12 @@ ghost use Rattle.path_nodes.specs.References.{IsElement, element_of};
 ghost use Rattle.session_state.specs.Paths.{lines_of};
 ghost use Rattle.session_state.specs.PlannedPaths.{planned_in, planned_lines, planned_price, prices_in, AreRunsOf, HasItsPlans, has_cheap_plans};
 ghost use Rattle.session_state.specs.SelectionTests.{AreOver, AreOverEach};
-ghost use Rattle.collections.specs.Loaded.{to_document, trees_of};
+ghost use Rattle.document_store.specs.Loaded.{to_document, trees_of};
 
 use crate::asked_runs::{Abbreviated, Loan, SelectionTest, look_up};
 use crate::planned::PlannedPath;
 use crate::shown::Shown;
-use collections::{Documents, Loaded};
+use document_store::{Documents, Loaded};
 use element_lines::{push_names, push_printed};
 use ft_base::{Line, Memory, Steps};
 use ordered_tree::NodeRef;

@@ -1,5 +1,5 @@
 ghost use Rattle.std.specs.Prelude.{◌≡◌, ◌≤◌, ◌+◌, false, None, Some, IfOk, OnErr, true};
-ghost use Rattle.collections.specs.Indexed.{IsIndexOf};
+ghost use Rattle.document_store.specs.Indexed.{IsIndexOf};
 ghost use Rattle.doc_profile.specs.Readings.{fragment_of};
 ghost use Rattle.session_state.specs.Edits as edits;
 ghost use Rattle.session_state.specs.Edits.{edit_path, touched_path, touched_with};
@@ -14,7 +14,7 @@ ghost use Rattle.session_state.specs.StampsAfter.{changes_stamps, changes_watche
 ghost use Rattle.session_state.specs.StateView.{prepared_of};
 ghost use Rattle.session_state.specs.Step.{changes_documents, changes_marks, changes_version, has_path, rows_for, shown as shown_by, shown_at, step};
 ghost use Rattle.session_state.specs.steps.Chosen.{edit_of};
-ghost use Rattle.command_replies.specs.Replies.{is_refusal};
+ghost use Rattle.reply_lines.specs.Replies.{is_refusal};
 
 use crate::edit::{Edit, Targets};
 use crate::editing::edit_along;
@@ -26,12 +26,12 @@ use crate::paths::{Ready, ReadyPath, answer_path, ready_path};
 use crate::refusing::refuse_block;
 use crate::shown::Shown;
 use crate::watches::Watches;
-use command_replies::{Command, Refusal, Reply};
 use doc_profile::read_fragment;
 use ft_base::{Line, Memory, Steps};
 use kept_plans::Prepared;
 use plain_tree::{How, Kids};
 use plan_runs::Judge;
+use reply_lines::{Command, Refusal, Reply};
 use stamped_documents::Stamped;
 use std::alloc::Global;
 use std::marker::Model;

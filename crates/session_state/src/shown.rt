@@ -1,7 +1,7 @@
 ghost use Rattle.std.specs.Prelude.{◌≡◌};
 ghost use Rattle.session_state.specs.Paths.{reply_with};
 
-use command_replies::Reply;
+use reply_lines::Reply;
 use text_list::TextList;
 
 /// What a command shows of the elements that its path selects.

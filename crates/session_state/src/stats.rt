@@ -1,10 +1,10 @@
 ghost use Rattle.std.specs.Prelude.{◌≡◌, length};
-ghost use Rattle.collections.specs.Documents.{key_total, token_total};
+ghost use Rattle.document_store.specs.Documents.{key_total, token_total};
 
 use crate::marks::Marks;
-use collections::Collection;
-use command_replies::Counts;
+use document_store::Collection;
 use kept_plans::Prepared;
+use reply_lines::Counts;
 
 /// How much a session holds.
 pub(crate) fn counts(collection: &Collection, marks: &Marks, prepared: &Prepared) -> Counts

@@ -2,7 +2,7 @@
 
 ghost use Rattle.std.specs.Prelude.{◌≡◌, ◌≤◌, ◌+◌, ◌||◌, ◌++◌, ◌∷◌, [], All, IfOk, OnOk, length, map, true};
 ghost use Rattle.std.specs.List.{list_any};
-ghost use Rattle.collections.specs.Loaded.{to_document, trees_of};
+ghost use Rattle.document_store.specs.Loaded.{to_document, trees_of};
 ghost use Rattle.document_edits.specs.Targets.{places_of};
 ghost use Rattle.ft_base.specs.Lists.{is_empty};
 ghost use Rattle.path_nodes.specs.References.{IsElement};
@@ -15,8 +15,8 @@ ghost use Rattle.session_state.specs.steps.Chosen.{planned_places, price_through
 use crate::asked_runs::Abbreviated;
 use crate::planned::PlannedPath;
 use crate::selected::select;
-use collections::{Documents, Loaded};
 use document_edits::laws::root_place_law;
+use document_store::{Documents, Loaded};
 use ft_base::{Items, Line, Memory, Steps};
 use ordered_tree::{NodeRef, NodeRefs};
 use path_grammar::PathRoot;

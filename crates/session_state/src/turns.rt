@@ -1,7 +1,7 @@
 //! What a watched path answers now, document by document. A document whose stamp is known is not asked again.
 
 ghost use Rattle.std.specs.Prelude.{◌≡◌, ◌≤◌, ◌+◌, if◌then◌else◌, is_some, length, map, true, IfOk};
-ghost use Rattle.collections.specs.Loaded.{to_document, trees_of};
+ghost use Rattle.document_store.specs.Loaded.{to_document, trees_of};
 ghost use Rattle.session_state.specs.PlannedPaths.{run_over, AreRunsOf, HasItsPlans, has_cheap_plans};
 ghost use Rattle.session_state.specs.SelectionTests.{AreOver, AreOverEach};
 ghost use Rattle.session_state.specs.Standings.{unknown_price};
@@ -14,7 +14,7 @@ use crate::planned::{PlannedPath, open_runs};
 use crate::selected::{push_lines, select};
 use crate::shown::Shown;
 use crate::targets::leads_through;
-use collections::{Collection, Documents, Loaded};
+use document_store::{Collection, Documents, Loaded};
 use ft_base::{Line, Memory, Steps};
 use plan_runs::{Judge, Run};
 use standing_queries::{SharedLines, Standing, Turn};

@@ -6,12 +6,12 @@ ghost use Rattle.std.specs.Option.{option_copied};
 ghost use Rattle.indexmap.specs.IndexMap.{insert_entry};
 ghost use Rattle.session_state.specs.KeptWatches.{watches_of};
 ghost use Rattle.session_state.specs.Watches.{watch_refusal, watch_taken};
-ghost use Rattle.command_replies.specs.Replies.{is_refusal};
+ghost use Rattle.reply_lines.specs.Replies.{is_refusal};
 
 use crate::marks::no_such_name;
-use command_replies::{FullOf, MAX_WATCHES, Refusal, Reply};
 use ft_base::{Line, Memory};
 use indexmap::IndexMap;
+use reply_lines::{FullOf, MAX_WATCHES, Refusal, Reply};
 use standing_queries::Standing;
 use std::alloc::Global;
 use std::marker::Model;

@@ -2,13 +2,13 @@
 use Rattle.std.proofs.Common.{◌≡◌, ◌∙◌, sym, ap, refl, ℕ, Bool, true, false, not, cond, ◌&&◌, ◌||◌, List}
 use Rattle.std.specs.Prelude.{Option, Some, None, Ok, Err, codes}
 use Rattle.ft_base.specs.Lists.{is_empty}
-use Rattle.command_replies.specs.declared.command.Command.{Command}
-use Rattle.command_replies.specs.declared.command.Command.TheVariants as command
+use Rattle.reply_lines.specs.declared.command.Command.{Command}
+use Rattle.reply_lines.specs.declared.command.Command.TheVariants as command
 use Rattle.plain_tree.specs.declared.place.How.{How}
 use Rattle.session_text.specs.LineCommands.{block_command, command_of_block, command_of_line, command_of_sized_block, how_of, insertion, made, named, named_with_path, query, quoted_name, quoted_name_and_path, second_command, watch_command, with_text}
 use Rattle.session_text.specs.Quoted.{is_quoted, quoted}
 use Rattle.text_lines.specs.Lines.{trimmed_line, first_word, after_first_word}
-use Rattle.command_replies.specs.Names.{is_bare_name, is_name, is_quoted_name}
+use Rattle.reply_lines.specs.Names.{is_bare_name, is_name, is_quoted_name}
 use Rattle.session_text.specs.Words.{is_text, is_one_word, is_command_line}
 
 -- what holds of both holds of the one that is chosen

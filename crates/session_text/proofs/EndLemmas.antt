@@ -3,7 +3,7 @@ use Rattle.std.proofs.Common.{◌≡◌, ◌∙◌, sym, ap, refl, ℕ, ◌+◌,
 use Rattle.std.specs.Prelude.{Option, Some, None, ◌==◌}
 use Rattle.std.specs.Option.{option_to_list}
 use Rattle.std.proofs.lemmas.List.{append-nil, nil_from_length}
-use Rattle.command_replies.specs.declared.command.Command.{Command}
+use Rattle.reply_lines.specs.declared.command.Command.{Command}
 use Rattle.session_text.specs.LineCommands.{opens_block, command_of_line, command_of_block}
 use Rattle.session_text.specs.PeriodBlocks.{closes_block, unquoted}
 use Rattle.session_text.specs.steps.Blocks.{without_last}

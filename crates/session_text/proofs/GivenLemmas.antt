@@ -6,12 +6,12 @@ use Rattle.std.specs.List.{list_all, starts_with}
 use Rattle.std.proofs.lemmas.List.Folds.{list_all-append}
 use Rattle.std.proofs.lemmas.List.Sums.{sum_by-append}
 use Rattle.std.proofs.lemmas.Bool.{and_from}
-use Rattle.command_replies.specs.declared.command.Command.{Command}
+use Rattle.reply_lines.specs.declared.command.Command.{Command}
 use Rattle.session_text.specs.steps.Blocks.{without_last}
 use Rattle.session_text.specs.LineCommands.{opens_block, command_of_block, command_of_line, command_of_sized_block}
 use Rattle.session_text.specs.PeriodBlocks.{closes_block, unquoted}
 use Rattle.text_lines.specs.Lines.{is_skipped}
-use Rattle.command_replies.specs.Given.{block_length, block_lengths, is_readable}
+use Rattle.reply_lines.specs.Given.{block_length, block_lengths, is_readable}
 use Rattle.session_text.specs.steps.PeriodReading.{Opened, Place, after_lines, ended_at, held_length, line_ended, opened_length, place_after}
 use Rattle.session_text.proofs.CommandLemmas.{HoldsOfBlocks, holds_of_block, holds_of_line, holds_of_sized_block}
 

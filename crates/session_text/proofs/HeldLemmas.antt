@@ -6,7 +6,7 @@ use Rattle.std.proofs.Math.Seq.{drop-nil, take-length}
 use Rattle.std.proofs.lemmas.Bool.Decides.{nat_tests}
 use Rattle.std.proofs.lemmas.List.{drop_all, length-drop, take-append-drop}
 use Rattle.std.proofs.lemmas.Bool.{leb-true}
-use Rattle.command_replies.specs.declared.command.Command.{Command}
+use Rattle.reply_lines.specs.declared.command.Command.{Command}
 use Rattle.session_text.specs.PeriodBlocks.{closes_block, unquoted}
 use Rattle.session_text.specs.LineCommands.{command_of_block}
 use Rattle.session_text.specs.steps.Blocks.{without_last}

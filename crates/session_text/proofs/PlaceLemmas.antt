@@ -7,7 +7,7 @@ use Rattle.std.proofs.lemmas.List.{take_all}
 use Rattle.std.proofs.lemmas.List.Sums.{split_at_first, passes_at_first}
 use Rattle.std.proofs.lemmas.Bool.{and_from}
 use Rattle.ft_base.specs.Characters.{is_line_feed}
-use Rattle.command_replies.specs.declared.command.Command.{Command}
+use Rattle.reply_lines.specs.declared.command.Command.{Command}
 use Rattle.session_text.specs.steps.PeriodReading.{Place, commands_from, ended_at, place_after, is_unended}
 use Rattle.session_text.proofs.ReadingLemmas.{commands_from-line, unended_append}
 

@@ -7,7 +7,7 @@ use Rattle.std.proofs.lemmas.List.{append-nil}
 use Rattle.std.proofs.lemmas.Bool.Decides.{nat_tests}
 use Rattle.std.proofs.lemmas.Bool.{and_parts, and_from, not-true}
 use Rattle.ft_base.specs.Characters.{is_line_feed}
-use Rattle.command_replies.specs.declared.command.Command.{Command}
+use Rattle.reply_lines.specs.declared.command.Command.{Command}
 use Rattle.session_text.specs.steps.Blocks.{block_after, without_last}
 use Rattle.session_text.specs.PeriodBlocks.{commands_of_lines, opened, closes_block, unquoted, block_of}
 use Rattle.session_text.specs.LineCommands.{opens_block, command_of_line, command_of_block}

@@ -7,9 +7,9 @@ use Rattle.std.proofs.lemmas.List.{append-nil}
 use Rattle.std.proofs.lemmas.Bool.{and_from}
 use Rattle.std.proofs.lemmas.Bool.Decides.{nat_tests}
 use Rattle.ft_base.specs.Lists.{is_empty}
-use Rattle.command_replies.specs.declared.command.Command.{Command}
-use Rattle.command_replies.specs.declared.command.Command.TheVariants as command
-use Rattle.command_replies.specs.Given.{block_lengths, is_readable}
+use Rattle.reply_lines.specs.declared.command.Command.{Command}
+use Rattle.reply_lines.specs.declared.command.Command.TheVariants as command
+use Rattle.reply_lines.specs.Given.{block_lengths, is_readable}
 use Rattle.text_lines.specs.Lines.{after_first_word, first_word, is_skipped, trimmed_line, without_return}
 use Rattle.session_text.specs.LineCommands.{command_of_line, command_of_sized_block, opens_sized_block}
 use Rattle.session_text.specs.SizedBlocks.{block_size, first_line, said, size_in, sized_commands}

@@ -4,7 +4,7 @@ use Rattle.std.specs.Prelude.{Option, Some, None, option_map}
 use Rattle.std.specs.Option.{option_to_list}
 use Rattle.std.proofs.lemmas.List.{append-nil, take-append-drop, take_all}
 use Rattle.ft_base.specs.Characters.{is_line_feed}
-use Rattle.command_replies.specs.declared.command.Command.{Command}
+use Rattle.reply_lines.specs.declared.command.Command.{Command}
 use Rattle.session_text.specs.SizedBlocks.{block_size, sized_commands}
 use Rattle.session_text.specs.steps.PeriodReading.{is_unended}
 use Rattle.session_text.specs.steps.SizedReading.{IsBlockOf, IsSizedPlace, SizedOpened, SizedPlace, block_grown, bytes_held, grown, left_of, number_past, opened_bytes, sized_commands_from, sized_ended, sized_ended_at, sized_held_length, sized_length, sized_line_ended}

@@ -5,7 +5,7 @@ use Rattle.std.specs.Option.{option_to_list}
 use Rattle.std.proofs.lemmas.List.{append-nil, take_at, drop_at}
 use Rattle.std.proofs.lemmas.Bool.Decides.{nat_tests}
 use Rattle.ft_base.specs.Lists.{is_empty}
-use Rattle.command_replies.specs.declared.command.Command.TheVariants as command
+use Rattle.reply_lines.specs.declared.command.Command.TheVariants as command
 use Rattle.text_lines.specs.Lines.{is_skipped, without_return}
 use Rattle.session_text.specs.LineCommands.{command_of_line, command_of_sized_block}
 use Rattle.session_text.specs.SizedBlocks.{block_size, first_line, said, size_behind, sized_command, sized_commands}

@@ -1,6 +1,6 @@
 -- The commands of a session's bytes.
 use Rattle.std.specs.Prelude.{ℕ, Bool, true, false, if◌then◌else◌, List, codes}
-use Rattle.command_replies.specs.declared.command.Command.{Command}
+use Rattle.reply_lines.specs.declared.command.Command.{Command}
 use Rattle.text_lines.specs.Lines.{without_return}
 use Rattle.session_text.specs.Lines.{lines_of, without_mark}
 use Rattle.session_text.specs.PeriodBlocks.{commands_of_lines}

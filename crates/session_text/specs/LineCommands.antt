@@ -2,12 +2,12 @@
 use Rattle.std.specs.Prelude.{ℕ, Bool, true, false, not, ◌&&◌, ◌||◌, if◌then◌else◌, List, [], ◌∷◌, codes, Option, Some, None, Result, Ok, Err}
 use Rattle.std.specs.List.{list_any}
 use Rattle.ft_base.specs.Lists.{is_empty}
-use Rattle.command_replies.specs.declared.command.Command.{Command}
-use Rattle.command_replies.specs.declared.command.Command.TheVariants as command
+use Rattle.reply_lines.specs.declared.command.Command.{Command}
+use Rattle.reply_lines.specs.declared.command.Command.TheVariants as command
 use Rattle.plain_tree.specs.declared.place.How.{How}
 use Rattle.plain_tree.specs.declared.place.How.TheVariants as how
 use Rattle.text_lines.specs.Lines.{after_first_word, first_word, trimmed_line}
-use Rattle.command_replies.specs.Names.{is_bare_name, is_quoted_name}
+use Rattle.reply_lines.specs.Names.{is_bare_name, is_quoted_name}
 use Rattle.session_text.specs.Words.{is_text, is_command_line, is_one_word}
 use Rattle.session_text.specs.Quoted.{is_quoted, quoted}
 

@@ -1,8 +1,8 @@
 -- The commands of a session whose blocks end at a line that is a period.
 use Rattle.std.specs.Prelude.{ℕ, ◌+◌, Bool, true, false, not, if◌then◌else◌, nat_eq, List, [], ◌∷◌, ◌++◌, drop, map, codes, Option, Some, None}
 use Rattle.std.specs.List.{starts_with, take_while, list_any, join_with_byte}
-use Rattle.command_replies.specs.declared.command.Command.{Command}
-use Rattle.command_replies.specs.declared.command.Command.TheVariants as command
+use Rattle.reply_lines.specs.declared.command.Command.{Command}
+use Rattle.reply_lines.specs.declared.command.Command.TheVariants as command
 use Rattle.text_lines.specs.Lines.{is_skipped, without_return}
 use Rattle.session_text.specs.LineCommands.{opens_block, command_of_line, command_of_block}
 use Rattle.session_text.specs.Words.{is_text}

@@ -7,8 +7,8 @@ use Rattle.std.specs.Str.Parse.{digits_value}
 use Rattle.ft_base.specs.Characters.{is_line_feed}
 use Rattle.ft_base.specs.Limits.{max_session_bytes}
 use Rattle.ft_base.specs.Lists.{is_empty}
-use Rattle.command_replies.specs.declared.command.Command.{Command}
-use Rattle.command_replies.specs.declared.command.Command.TheVariants as command
+use Rattle.reply_lines.specs.declared.command.Command.{Command}
+use Rattle.reply_lines.specs.declared.command.Command.TheVariants as command
 use Rattle.text_lines.specs.Lines.{after_first_word, first_word, is_skipped, trimmed_line, without_return}
 use Rattle.session_text.specs.LineCommands.{opens_sized_block, command_of_line, command_of_sized_block}
 use Rattle.session_text.specs.Words.{is_command_line}

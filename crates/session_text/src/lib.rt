@@ -15,7 +15,7 @@ mod sized;
 mod unfinished;
 mod words;
 
-pub use command_replies::{
+pub use reader::Lines_;
+pub use reply_lines::{
     Command, Commands, Counts, FullOf, How, LimitOf, MAX_WATCHES, Refusal, Reply, print_reply,
 };
-pub use reader::Lines_;

@@ -1,7 +1,7 @@
 ghost use Rattle.std.specs.Prelude.{◌≡◌, ◌+◌, ◌++◌, ◌≤◌, ◌<◌, ◌^◌, Bool, List, ℕ, [], true, length, IfOk, OnOk};
 ghost use Rattle.std.specs.List.{list_all};
 ghost use Rattle.std.specs.Option.{option_to_list};
-ghost use Rattle.command_replies.specs.Given.{block_lengths, is_readable};
+ghost use Rattle.reply_lines.specs.Given.{block_lengths, is_readable};
 ghost use Rattle.session_text.specs.Commands.{says_second as second_follows};
 ghost use Rattle.session_text.specs.steps.Reading.{IsFirstLine, IsPlace, at_front, bytes_held_back, commands_after};
 

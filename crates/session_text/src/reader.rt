@@ -2,7 +2,7 @@ ghost use Rattle.std.specs.Prelude.{◌≡◌, ◌+◌, ◌++◌, ◌<◌, ◌�
 ghost use Rattle.std.specs.Option.{option_to_list};
 ghost use Rattle.std.specs.List.{list_all};
 ghost use Rattle.session_text.specs.Commands.{commands, whole};
-ghost use Rattle.command_replies.specs.Given.{block_lengths, is_readable};
+ghost use Rattle.reply_lines.specs.Given.{block_lengths, is_readable};
 ghost use Rattle.session_text.specs.steps.Reading.{bytes_held_back, commands_left, new_reading, whole_left};
 
 use crate::reached::Reached;

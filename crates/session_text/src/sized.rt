@@ -1,7 +1,7 @@
 ghost use Rattle.std.specs.Prelude.{◌≡◌, ◌+◌, ◌++◌, ◌∷◌, ◌≤◌, ◌<◌, ◌^◌, Bool, List, ℕ, [], true, drop, length, take, Some, None, IfOk, OnOk};
 ghost use Rattle.std.specs.List.{list_all};
 ghost use Rattle.std.specs.Option.{option_to_list};
-ghost use Rattle.command_replies.specs.Given.{block_lengths, is_readable};
+ghost use Rattle.reply_lines.specs.Given.{block_lengths, is_readable};
 ghost use Rattle.session_text.specs.SizedBlocks.{block_size};
 ghost use Rattle.session_text.specs.steps.SizedReading.{IsSizedPlace, after_block, after_first, block_grown, bytes_held, closed_command, last_sized};
 ghost use Rattle.session_text.specs.steps.SizedReading.{left_of, number_past as past, sized_commands_from, sized_ended_at, sized_held_length, sized_line_ended};

@@ -1,6 +1,6 @@
 ghost use Rattle.std.specs.Prelude.{◌≡◌, ◌+◌, ◌++◌, ◌≤◌, ◌<◌, ◌^◌, ◌∷◌, Bool, List, ℕ, [], true, drop, length, take, Some, None, IfOk, OnOk};
 ghost use Rattle.std.specs.List.{list_all, position_or_len};
-ghost use Rattle.command_replies.specs.Given.{block_lengths, is_readable};
+ghost use Rattle.reply_lines.specs.Given.{block_lengths, is_readable};
 ghost use Rattle.std.specs.Option.{option_map, option_to_list};
 ghost use Rattle.ft_base.specs.Characters.{is_line_feed};
 ghost use Rattle.session_text.specs.steps.Blocks.{without_last};

@@ -2,7 +2,7 @@ ghost use Rattle.std.specs.Prelude.{◌≡◌, ◌≤◌, length, drop};
 ghost use Rattle.std.specs.List.{list_all, list_any};
 ghost use Rattle.std.specs.Str.{chars};
 ghost use Rattle.text_lines.specs.Lines.{trimmed_line, first_word, after_first_word};
-ghost use Rattle.command_replies.specs.Names.{is_bare_name, is_control_byte, is_name_byte, is_quoted_name};
+ghost use Rattle.reply_lines.specs.Names.{is_bare_name, is_control_byte, is_name_byte, is_quoted_name};
 ghost use Rattle.session_text.specs.Words.{is_one_word};
 
 use ft_base::MAX_NAME_BYTES;

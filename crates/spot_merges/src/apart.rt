@@ -6,8 +6,8 @@ ghost use Rattle.spot_merges.specs.Apart.{some_apart};
 ghost use Rattle.spot_merges.specs.Edges.{spots_of};
 
 use crate::covering::{Cover, cover_up_to};
-use ft_base::{Span, Steps};
-use place_merges::{FirstWords, Spot, Variant, next_spot};
+use ft_base::{FirstWords, Span, Steps};
+use place_merges::{Spot, Variant, next_spot};
 use std::sync::ledger::Ledger;
 
 /// Whether one of the left variants that count stands in the span on words that no right variant covers all of.

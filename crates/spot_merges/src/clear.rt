@@ -8,8 +8,8 @@ ghost use Rattle.spot_merges.specs.Edges.{spots_of};
 ghost use Rattle.spot_merges.specs.steps.Clearing as spec;
 ghost use Rattle.spot_merges.specs.steps.Covering.{SameAt, spots_ahead};
 
-use ft_base::{Span, Steps};
-use place_merges::{FirstWords, Spot, Variant, next_lead, next_spot};
+use ft_base::{FirstWords, Span, Steps};
+use place_merges::{Spot, Variant, next_lead, next_spot};
 use std::sync::ledger::Ledger;
 
 /// Some spots of a phrase that were passed.

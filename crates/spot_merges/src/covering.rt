@@ -4,8 +4,8 @@ ghost use Rattle.std.specs.Prelude.{◌≡◌, ◌+◌, ◌*◌, ◌^◌, ◌<�
 ghost use Rattle.place_merges.specs.Sources.{all_left, all_lists, all_plain};
 ghost use Rattle.spot_merges.specs.steps.Covering as spec;
 
-use ft_base::Steps;
-use place_merges::{FirstWords, Spot, Variant, next_lead};
+use ft_base::{FirstWords, Steps};
+use place_merges::{Spot, Variant, next_lead};
 use std::sync::ledger::Ledger;
 
 /// Some spots of a phrase that were passed.

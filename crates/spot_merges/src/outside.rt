@@ -7,8 +7,8 @@ ghost use Rattle.spot_merges.specs.Outside.{stands_outside};
 
 use crate::apart::stand_apart;
 use crate::clear::stand_clear;
-use ft_base::{Span, Steps};
-use place_merges::{FirstWords, Variant};
+use ft_base::{FirstWords, Span, Steps};
+use place_merges::Variant;
 use std::sync::ledger::Ledger;
 
 /// How a phrase stands outside another one.

@@ -9,12 +9,12 @@ use Rattle.ft_base.specs.declared.ids.NodeRef.{NodeRef}
 use Rattle.ordered_tree.specs.Numbered.{Numbered}
 use Rattle.path_meaning.specs.Collection.{Named}
 use Rattle.plain_tree.specs.Document.{Node}
-use Rattle.collections.specs.declared.fault.NotEdited.{NotEdited}
-use Rattle.collections.specs.declared.fault.NotLoaded.{NotLoaded}
-use Rattle.collections.specs.declared.fault.NotLoaded.TheVariants as unloaded
-use Rattle.collections.specs.declared.fault.NotRemoved.TheVariants as unremoved
-use Rattle.collections.specs.Documents.{Edit, added, changed_roots, dropped, edited_documents, edited_within, has_name, limit_of, loaded, or_limited, without}
-use Rattle.collections.specs.Targets.{AreTargets, places_of_targets}
+use Rattle.document_store.specs.declared.fault.NotEdited.{NotEdited}
+use Rattle.document_store.specs.declared.fault.NotLoaded.{NotLoaded}
+use Rattle.document_store.specs.declared.fault.NotLoaded.TheVariants as unloaded
+use Rattle.document_store.specs.declared.fault.NotRemoved.TheVariants as unremoved
+use Rattle.document_store.specs.Documents.{Edit, added, changed_roots, dropped, edited_documents, edited_within, has_name, limit_of, loaded, or_limited, without}
+use Rattle.document_store.specs.Targets.{AreTargets, places_of_targets}
 use Rattle.stamped_documents.specs.Stamps.{restamped, without_stamp}
 use Rattle.stamped_documents.specs.steps.Places.{documents_before}
 

@@ -1,8 +1,8 @@
 -- Documents with their index and a stamp each.
 use Rattle.std.specs.Prelude.{ℕ, List, [], refl}
 use Rattle.std.specs.Coded.{Coded, code_by, coded×, coded_list, coded_ℕ}
-use Rattle.collections.specs.Indexed.{Indexed, nothing_indexed}
-use Rattle.collections.specs.StoredIndexed.{indexed_code}
+use Rattle.document_store.specs.Indexed.{Indexed, nothing_indexed}
+use Rattle.document_store.specs.StoredIndexed.{indexed_code}
 
 -- documents with their index, their stamps in order, and a number that is greater than each stamp that there was
 pub record StampedDocuments : Type 0 where

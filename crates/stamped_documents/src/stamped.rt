@@ -7,13 +7,13 @@ ghost use Rattle.ft_base.specs.Lists.{is_empty};
 ghost use Rattle.plain_tree.specs.Document.{nodes};
 ghost use Rattle.plain_tree.specs.View.{node};
 ghost use Rattle.tree_edits.specs.Acts.{stays};
-ghost use Rattle.collections.specs.Documents.{dropped, edited_within, loadable, loaded, tokens_loaded, tokens_named, touched_in};
-ghost use Rattle.collections.specs.Targets.{edit_of, places_of_targets, AreTargets};
+ghost use Rattle.document_store.specs.Documents.{dropped, edited_within, loadable, loaded, tokens_loaded, tokens_named, touched_in};
+ghost use Rattle.document_store.specs.Targets.{edit_of, places_of_targets, AreTargets};
 ghost use Rattle.stamped_documents.specs.Stamped.{nothing_stamped};
 ghost use Rattle.stamped_documents.specs.Stamps.{renewed, restamped, without_stamp};
 
 use crate::stamping::{place_of, renew, restamp};
-use collections::{Collection, NotEdited, NotLoaded, NotRemoved};
+use document_store::{Collection, NotEdited, NotLoaded, NotRemoved};
 use ft_base::{Line, Memory, Steps};
 use ordered_tree::NodeRefs;
 use plain_tree::{How, Kids};

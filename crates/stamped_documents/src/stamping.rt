@@ -4,7 +4,7 @@ ghost use Rattle.std.specs.Prelude.{◌≡◌, ◌+◌, ◌<◌, ◌^◌, cond, 
 ghost use Rattle.stamped_documents.specs.Stamps.{renewed, restamped};
 ghost use Rattle.stamped_documents.specs.steps.Places.{documents_before};
 
-use collections::Collection;
+use document_store::Collection;
 use ft_base::Line;
 use ordered_tree::NodeRefs;
 

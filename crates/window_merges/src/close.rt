@@ -5,8 +5,7 @@ ghost use Rattle.window_merges.specs.Choices.{are_close, some_choice};
 ghost use Rattle.window_merges.specs.Rows.{all_places, word_lists, words_left, words_plain};
 
 use crate::first_hits::first_hits;
-use ft_base::{Span, Steps};
-use place_merges::FirstWords;
+use ft_base::{FirstWords, Span, Steps};
 use std::sync::ledger::Ledger;
 
 /// Whether one hit of each word can be chosen in the span so that all begin among `size` places that follow one another.

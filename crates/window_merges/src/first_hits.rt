@@ -4,8 +4,8 @@ ghost use Rattle.std.specs.Prelude.{◌<◌};
 ghost use Rattle.place_merges.specs.steps.Searching.{Moved};
 ghost use Rattle.window_merges.specs.steps.Reaching.{Reaches, SameWords, has_hit, shown_words};
 
-use ft_base::Steps;
-use place_merges::{FirstWords, lead_of_sources};
+use ft_base::{FirstWords, Steps};
+use place_merges::lead_of_sources;
 use std::sync::ledger::Ledger;
 
 /// Where the words have their first hits from a place on.

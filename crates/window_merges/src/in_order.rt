@@ -4,8 +4,8 @@ ghost use Rattle.std.specs.Prelude.{◌≡◌, ◌+◌, ◌*◌, ◌≤◌, IsTr
 ghost use Rattle.window_merges.specs.Choices.{are_in_order, some_choice};
 ghost use Rattle.window_merges.specs.Rows.{all_places, word_lists, words_left, words_plain};
 
-use ft_base::{Span, Steps};
-use place_merges::{FirstWords, lead_of_sources};
+use ft_base::{FirstWords, Span, Steps};
+use place_merges::lead_of_sources;
 use std::sync::ledger::Ledger;
 
 /// Whether one hit of each word can be chosen in the span so that none begins before one of an earlier word.

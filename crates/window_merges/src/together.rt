@@ -6,8 +6,7 @@ ghost use Rattle.window_merges.specs.Rows.{all_places, word_lists, words_left, w
 
 use crate::first_hits::{FirstHits, first_hits};
 use crate::units::Units;
-use ft_base::{Span, Steps};
-use place_merges::FirstWords;
+use ft_base::{FirstWords, Span, Steps};
 use std::sync::ledger::Ledger;
 
 /// Whether one hit of each word can be chosen in the span so that all begin in one unit.

@@ -3,7 +3,7 @@ use Rattle.std.specs.Prelude.{◌≡◌, ⊤, ℕ, false, [], List, Option, Some
 use Rattle.ft_base.specs.Hits.{HitPlace, hit_place}
 use Rattle.index_meaning.specs.Documents.{Numbered, breaks_of, document_at}
 use Rattle.index_meaning.specs.Postings.{places}
-use Rattle.term_groups.specs.Groups.{in_group}
+use Rattle.index_groups.specs.Groups.{in_group}
 use Rattle.index_versions.specs.Versions.{stands_in, term_at}
 use Rattle.index_versions.specs.declared.term_source.FoundTerm.{FoundTerm}
 

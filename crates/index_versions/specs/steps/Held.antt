@@ -4,8 +4,8 @@ use Rattle.std.specs.Option.{option_map_or}
 use Rattle.std.specs.List.{count_by}
 use Rattle.ft_base.specs.declared.ids.LeafId.{LeafId}
 use Rattle.ft_base.specs.declared.places.Breaks.{Breaks}
-use Rattle.doc_index.specs.Terms as by_id
-use Rattle.doc_index.specs.Terms.{TermDocument, has}
+use Rattle.index_document.specs.Terms as by_id
+use Rattle.index_document.specs.Terms.{TermDocument, has}
 use Rattle.index_meaning.specs.Entries.{Entry}
 use Rattle.index_meaning.specs.Documents.{Leaf, Document, Numbered, leaf_of, document_of, numbered}
 

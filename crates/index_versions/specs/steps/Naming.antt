@@ -3,8 +3,8 @@ use Rattle.std.specs.Prelude.{◌≡◌, ◌≤◌, ◌<◌, ◌||◌, ℕ, Bool
 use Rattle.std.specs.List.{flat_map, list_all}
 use Rattle.std.specs.Ordering.{is_eq}
 use Rattle.text_forms.specs.Forms.{key_of}
-use Rattle.doc_index.specs.Terms.{has}
-use Rattle.document_counts.specs.Counts.{count_of}
+use Rattle.index_document.specs.Terms.{has}
+use Rattle.index_counts.specs.Counts.{count_of}
 use Rattle.index_meaning.specs.Entries.{Entry, text_cmp}
 use Rattle.index_meaning.specs.Dictionaries.{Dictionary, ids}
 use Rattle.index_meaning.specs.Documents.{Leaf}

@@ -2,11 +2,11 @@
 use Rattle.std.specs.Prelude.{◌≡◌, ◌||◌, ℕ, true, nat_lt, List, []}
 use Rattle.std.specs.List.{All}
 use Rattle.ft_base.specs.Places.{is_ascending}
-use Rattle.doc_index.specs.Terms.{has}
+use Rattle.index_document.specs.Terms.{has}
 use Rattle.index_meaning.specs.Dictionaries.{ids}
 use Rattle.index_meaning.specs.Documents.{Numbered}
-use Rattle.document_counts.specs.Counts.{count_of}
-use Rattle.term_groups.specs.Groups.{may_be}
+use Rattle.index_counts.specs.Counts.{count_of}
+use Rattle.index_groups.specs.Groups.{may_be}
 use Rattle.index_versions.specs.declared.parts.Parts.{Parts}
 use Rattle.index_versions.specs.steps.Held.{Held, held_ids, documents_under, documents_with, numbers}
 use Rattle.index_versions.specs.steps.Naming.{are_keyed}

@@ -6,7 +6,7 @@ ghost use Rattle.std.specs.Prelude.{◌≡◌, ◌≤◌, ℕ, suc, true, false,
 ghost use Rattle.ft_base.specs.Characters.{is_name_char, is_name_start};
 ghost use Rattle.ft_base.specs.Letters.{begins_with};
 ghost use Rattle.ft_base.specs.Limits.{max_number};
-ghost use Rattle.query_symbols.specs.Symbols.{goes_on_as_name, symbols_within};
+ghost use Rattle.query_lexer.specs.Symbols.{goes_on_as_name, symbols_within};
 ghost use Rattle.ft_syntax.specs.OptionSymbols.{in_quotes, string_symbol};
 ghost use Rattle.selection_round_trip.specs.Strings.{with_string, with_symbol};
 ghost use Rattle.selection_grammar.specs.declared.symbol.Symbol.TheVariants.{Name, Number};

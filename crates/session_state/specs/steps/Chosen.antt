@@ -1,8 +1,8 @@
 -- The elements that a path selects in documents, by their references.
 use Rattle.std.specs.Prelude.{◌≡◌, ℕ, if◌then◌else◌, List, [], ◌∷◌, map, All, ⊤}
 use Rattle.std.specs.List.{sum_by}
-use Rattle.collections.specs.Documents.{Edit}
-use Rattle.collections.specs.Loaded.{LoadedTree, to_document}
+use Rattle.document_store.specs.Documents.{Edit}
+use Rattle.document_store.specs.Loaded.{LoadedTree, to_document}
 use Rattle.document_edits.specs.Targets.{places_of}
 use Rattle.ft_base.specs.declared.ids.NodeRef.{NodeRef}
 use Rattle.path_meaning.specs.Collection.{Named}

@@ -2,9 +2,9 @@
 use Rattle.std.specs.Prelude.{ℕ, if◌then◌else◌, List, [], ◌∷◌, flat_map, Option, Some, None, option_and_then}
 use Rattle.std.specs.List.{slice_get}
 use Rattle.best_hits.specs.Showable.{can_show}
-use Rattle.command_replies.specs.declared.reply.Refusal.TheVariants as refusal
-use Rattle.command_replies.specs.declared.reply.Reply.{Reply}
-use Rattle.command_replies.specs.declared.reply.Reply.TheVariants as reply
+use Rattle.reply_lines.specs.declared.reply.Refusal.TheVariants as refusal
+use Rattle.reply_lines.specs.declared.reply.Reply.{Reply}
+use Rattle.reply_lines.specs.declared.reply.Reply.TheVariants as reply
 use Rattle.element_lines.specs.Marked.{marked_line}
 use Rattle.ft_base.specs.Selection.{Form}
 use Rattle.ft_base.specs.declared.ids.NodeRef.{NodeRef}

@@ -28,7 +28,7 @@ ghost use Rattle.plan_runs.specs.Judgement.{Judgement};
 ghost use Rattle.plan_compiler.specs.Lexicon.{lexicon};
 ghost use Rattle.plan_compiler.specs.NamedLists.{NamedLists};
 ghost use Rattle.plan_runs.specs.RunPrice.{price};
-ghost use Rattle.command_replies.specs.declared.command.Command.TheVariants as command;
+ghost use Rattle.reply_lines.specs.declared.command.Command.TheVariants as command;
 ghost use Rattle.tokenizer.specs.Tokens.{words_in};
 ghost use Rattle.session_state.specs.KeptTexts.{text_at};
 ghost use Rattle.session_state.specs.Held.{Held};

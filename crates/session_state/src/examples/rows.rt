@@ -6,8 +6,8 @@ path_meaning::specs::Meaning::stepped, path_meaning::specs::Meaning::led, path_m
 path_meaning::specs::Meaning::selected))]
 
 ghost use Rattle.std.specs.Prelude.{◌≡◌, ◌∷◌, [], ℕ, List, codes, None, Some, Ok, Err};
-ghost use Rattle.collections.specs.declared.fault.NotLoaded.{NotLoaded};
-ghost use Rattle.collections.specs.Documents.{loadable, tokens_loaded, tokens_named, touched_in};
+ghost use Rattle.document_store.specs.declared.fault.NotLoaded.{NotLoaded};
+ghost use Rattle.document_store.specs.Documents.{loadable, tokens_loaded, tokens_named, touched_in};
 ghost use Rattle.doc_profile.specs.Readings.{fragment_of};
 ghost use Rattle.doc_profile.specs.declared.fault.DocFault.{DocFault};
 ghost use Rattle.ft_base.specs.declared.fault.QueryFault.{QueryFault};
@@ -21,7 +21,7 @@ ghost use Rattle.plain_tree.specs.Document.{Node};
 ghost use Rattle.plain_tree.specs.declared.place.How.TheVariants as ways;
 ghost use Rattle.plan_compiler.specs.NamedLists.{NamedLists};
 ghost use Rattle.plan_runs.specs.Judgement.{Judgement};
-ghost use Rattle.command_replies.specs.declared.command.Command.TheVariants as command;
+ghost use Rattle.reply_lines.specs.declared.command.Command.TheVariants as command;
 ghost use Rattle.session_state.specs.declared.edit.Targets.TheVariants as many;
 ghost use Rattle.session_state.specs.Edits.{deletion, touched_read, touched_with};
 ghost use Rattle.session_state.specs.PriceExamples.{two_held, with_selections};

@@ -4,9 +4,9 @@
 ghost use Rattle.std.specs.Prelude.{◌≡◌, ◌+◌, ◌∷◌, [], ℕ, List, codes, false, true, None, Some};
 ghost use Rattle.path_meaning.specs.Collection.{Named};
 ghost use Rattle.plan_runs.specs.Judgement.{Judgement};
-ghost use Rattle.command_replies.specs.declared.command.Command.TheVariants as command;
-ghost use Rattle.command_replies.specs.declared.reply.Refusal.TheVariants as refusal;
-ghost use Rattle.command_replies.specs.declared.reply.Reply.TheVariants as reply;
+ghost use Rattle.reply_lines.specs.declared.command.Command.TheVariants as command;
+ghost use Rattle.reply_lines.specs.declared.reply.Refusal.TheVariants as refusal;
+ghost use Rattle.reply_lines.specs.declared.reply.Reply.TheVariants as reply;
 ghost use Rattle.standing_queries.specs.Answers.{all_lines, Answers};
 ghost use Rattle.session_state.specs.Held.{Held};
 ghost use Rattle.session_state.specs.Standings.{answers_now, standing_of, unknown_price, with_standing, without_standing};

@@ -3,8 +3,8 @@ use Rattle.std.specs.Prelude.{◌≡◌, ◌≤◌, ℕ, ◌+◌, ◌-◌, Bool,
 use Rattle.std.specs.Prelude.{◌∷◌, ◌++◌, length, take, drop, not, Option, Some, None, option_map}
 use Rattle.std.specs.List.{list_all}
 use Rattle.ft_base.specs.Characters.{is_line_feed}
-use Rattle.command_replies.specs.declared.command.Command.{Command}
-use Rattle.command_replies.specs.declared.command.Command.TheVariants as command
+use Rattle.reply_lines.specs.declared.command.Command.{Command}
+use Rattle.reply_lines.specs.declared.command.Command.TheVariants as command
 use Rattle.session_text.specs.steps.Blocks.{block_after, without_last}
 use Rattle.session_text.specs.PeriodBlocks.{opened, commands_of_lines, closes_block, unquoted}
 use Rattle.session_text.specs.LineCommands.{opens_block, command_of_line, command_of_block}

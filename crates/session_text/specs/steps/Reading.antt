@@ -1,6 +1,6 @@
 -- How far a session was read.
 use Rattle.std.specs.Prelude.{◌≡◌, ◌≤◌, ℕ, ◌+◌, Bool, true, false, List, ◌++◌, length}
-use Rattle.command_replies.specs.declared.command.Command.{Command}
+use Rattle.reply_lines.specs.declared.command.Command.{Command}
 use Rattle.session_text.specs.Commands.{commands_of}
 use Rattle.session_text.specs.declared.reached.Stage.{Stage}
 use Rattle.session_text.specs.declared.reached.Stage.TheVariants as stage

@@ -1,8 +1,8 @@
 -- How far a session was read whose blocks have the lengths that their lines tell.
 use Rattle.std.specs.Prelude.{◌≡◌, ◌<◌, ⊤, ℕ, ◌+◌, ◌-◌, Bool, true, if◌then◌else◌, nat_lt, List, [], ◌∷◌, ◌++◌, length, Option, Some, None, option_map}
 use Rattle.ft_base.specs.Lists.{is_empty}
-use Rattle.command_replies.specs.declared.command.Command.{Command}
-use Rattle.command_replies.specs.declared.command.Command.TheVariants as command
+use Rattle.reply_lines.specs.declared.command.Command.{Command}
+use Rattle.reply_lines.specs.declared.command.Command.TheVariants as command
 use Rattle.text_lines.specs.Lines.{is_skipped, without_return}
 use Rattle.session_text.specs.LineCommands.{command_of_line, command_of_sized_block}
 use Rattle.session_text.specs.SizedBlocks.{block_size, number_after, sized_commands}

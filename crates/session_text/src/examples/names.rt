@@ -1,7 +1,7 @@
 //! Names in quotation marks.
 
 ghost use Rattle.std.specs.Prelude.{◌≡◌, ◌++◌, ◌∷◌, [], codes, false, true, None, Some};
-ghost use Rattle.command_replies.specs.declared.command.Command.TheVariants as command;
+ghost use Rattle.reply_lines.specs.declared.command.Command.TheVariants as command;
 ghost use Rattle.session_text.specs.LineCommands.{named, query};
 ghost use Rattle.session_text.specs.Quoted.{is_quoted, quoted};
 

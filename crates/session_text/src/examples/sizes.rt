@@ -1,7 +1,7 @@
 //! Blocks that have lengths.
 
 ghost use Rattle.std.specs.Prelude.{◌≡◌, ◌++◌, ◌∷◌, [], codes, false, true, None, Some};
-ghost use Rattle.command_replies.specs.declared.command.Command.TheVariants as command;
+ghost use Rattle.reply_lines.specs.declared.command.Command.TheVariants as command;
 ghost use Rattle.plain_tree.specs.declared.place.How.TheVariants as how;
 ghost use Rattle.session_text.specs.Commands.{commands, says_second, whole};
 ghost use Rattle.session_text.specs.SizedBlocks.{block_size, said_size, size_in, sized_commands};

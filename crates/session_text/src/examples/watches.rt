@@ -1,7 +1,7 @@
 //! The commands of watches.
 
 ghost use Rattle.std.specs.Prelude.{◌≡◌, ◌∷◌, [], codes, false, true, None};
-ghost use Rattle.command_replies.specs.declared.command.Command.TheVariants as command;
+ghost use Rattle.reply_lines.specs.declared.command.Command.TheVariants as command;
 ghost use Rattle.session_text.specs.Commands.{commands};
 ghost use Rattle.session_text.specs.LineCommands.{command_of_line, watch_command};
 ghost use Rattle.session_text.specs.SizedBlocks.{block_size};

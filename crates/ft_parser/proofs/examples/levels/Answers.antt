@@ -5,7 +5,7 @@ use Rattle.std.proofs.Math.Utf8.{encode}
 use Rattle.ft_base.specs.Characters.{is_name_start, is_name_char}
 use Rattle.selection_grammar.specs.Form.{form_of}
 use Rattle.selection_grammar.specs.steps.Machine.{next}
-use Rattle.query_symbols.specs.Symbols.{symbols_of, symbols_within, first_lexeme}
+use Rattle.query_lexer.specs.Symbols.{symbols_of, symbols_within, first_lexeme}
 use Rattle.ft_parser.proofs.examples.levels.Goals as goal
 
 pub returns-clause-or_and : goal.returns-clause-or_and

@@ -1,8 +1,8 @@
 -- What is written is of the reply to the command. Where memory runs out before the reply, nothing of it was written.
 use Rattle.std.proofs.Common.{◌≡◌, ap, subst}
 use Rattle.std.specs.Prelude.{IfOk, OnOk, OnErr}
-use Rattle.command_replies.specs.Replies.{is_refusal, reply_text}
-use Rattle.command_replies.specs.declared.reply.Reply.{Reply}
+use Rattle.reply_lines.specs.Replies.{is_refusal, reply_text}
+use Rattle.reply_lines.specs.declared.reply.Reply.{Reply}
 use Rattle.session_state.specs.State.{State}
 use Rattle.ft_session.specs.Output.{portion_of}
 use Rattle.ft_session.specs.Run.{TookPrefix, with_text}

@@ -3,8 +3,8 @@ use Rattle.std.proofs.Common.{◌∙◌, sym, ap, refl, subst, ◌||◌, ◌+◌
 use Rattle.std.specs.List.{list_any}
 use Rattle.std.proofs.lemmas.Result.{err_from_is_err_and}
 use Rattle.std.proofs.Math.Bool.{or_assoc}
-use Rattle.command_replies.specs.declared.reply.Reply.{Reply}
-use Rattle.command_replies.specs.Replies.{is_refusal, reply_text}
+use Rattle.reply_lines.specs.declared.reply.Reply.{Reply}
+use Rattle.reply_lines.specs.Replies.{is_refusal, reply_text}
 use Rattle.session_state.specs.Step.{replies, step}
 use Rattle.ft_session.specs.Output.{portion_of, portions_of}
 use Rattle.ft_session.proofs.AnswerLemmas.{WrittenSoFar, prefix_more, replies-next, state_after-next, written_more, written_start}

@@ -1,7 +1,7 @@
 -- The replies so far are written, and those to what is left are the rest.
 use Rattle.std.proofs.Common.{◌≡◌, ◌||◌, drop}
 use Rattle.std.specs.List.{list_any}
-use Rattle.command_replies.specs.Replies.{is_refusal}
+use Rattle.reply_lines.specs.Replies.{is_refusal}
 use Rattle.session_state.specs.Step.{replies, state_after}
 use Rattle.ft_session.specs.Output.{portions_of}
 use Rattle.ft_session.proofs.AnswerLemmas.{WrittenSoFar}

@@ -5,7 +5,7 @@ use Rattle.std.proofs.lemmas.Result.{IfOk-weaker}
 use Rattle.index_meaning.specs.Documents.{Document, Numbered, document_at, leaf_ids, numbered, token_count, with_document}
 use Rattle.index_meaning.specs.Index.{index}
 use Rattle.text_forms.specs.Forms.{key_of}
-use Rattle.doc_index.specs.Terms.{are_distinct}
+use Rattle.index_document.specs.Terms.{are_distinct}
 use Rattle.index_updates.specs.Follows.{Follows, tree_document, word_leaves}
 use Rattle.index_updates.proofs.LeavesLemmas.{distinct-leaves}
 use Rattle.index_updates.proofs.VersionLemmas.{follows-with, found-document, others-with}

@@ -2,8 +2,8 @@
 use Rattle.std.proofs.Common.{not, sym, ◌∙◌, arith}
 use Rattle.std.specs.Prelude.{nat_lt}
 use Rattle.std.proofs.lemmas.Bool.{and_parts, or_right, lt-ltb}
-use Rattle.doc_index.specs.Terms.{has}
-use Rattle.document_counts.specs.Counts.{count_of}
+use Rattle.index_document.specs.Terms.{has}
+use Rattle.index_counts.specs.Counts.{count_of}
 use Rattle.index_versions.specs.steps.Held.{documents_with, listed_ids}
 use Rattle.index_versions.proofs.ChangeLemmas.{old_counted, sound_then}
 use Rattle.index_versions.proofs.changes.change.Goals as goal

@@ -1,7 +1,7 @@
 -- Each id that leaves is there, and the others stay.
 use Rattle.std.proofs.Common.{◌≡◌, ◌+◌, ℕ, ◌&&◌, ◌==◌, ◌∷◌, List, not, drop, get_or, ap, sym, ◌∙◌, arith}
 use Rattle.std.proofs.lemmas.List.{drop_more}
-use Rattle.doc_index.specs.Terms.{are_distinct, has}
+use Rattle.index_document.specs.Terms.{are_distinct, has}
 use Rattle.index_meaning.specs.Dictionaries.{ids}
 use Rattle.index_versions.proofs.ChangeLemmas.{leaves}
 use Rattle.index_versions.proofs.changes.drop_terms.Goals as goal

@@ -1,6 +1,6 @@
 -- The ids from the next one on are still there, and without them the dictionary has what it has in the end.
 use Rattle.std.proofs.Common.{◌≡◌, ℕ, ◌&&◌, not, true, drop}
-use Rattle.doc_index.specs.Terms.{are_distinct, has}
+use Rattle.index_document.specs.Terms.{are_distinct, has}
 use Rattle.index_meaning.specs.Dictionaries.{ids}
 use Rattle.index_versions.proofs.changes.drop_terms.Given as goal
 

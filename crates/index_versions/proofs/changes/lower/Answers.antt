@@ -1,6 +1,6 @@
 -- A document that goes is counted no longer, and its ids that no document has are those that fall.
 use Rattle.std.proofs.Common.{ap, ◌∙◌}
-use Rattle.doc_index.specs.Terms.{are_distinct, words_of}
+use Rattle.index_document.specs.Terms.{are_distinct, words_of}
 use Rattle.index_versions.proofs.ChangeLemmas.{fallen_distinct}
 use Rattle.index_versions.proofs.changes.lower.Goals as goal
 

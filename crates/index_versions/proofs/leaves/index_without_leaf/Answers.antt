@@ -1,7 +1,7 @@
 -- The leaf is found at its place, and the others stay.
 use Rattle.std.proofs.Common.{◌+◌, [], length, get_or, ap, sym, ◌∙◌, arith, true≢false}
-use Rattle.doc_index.specs.Terms as by_id
-use Rattle.doc_index.specs.Terms.{TermDocument}
+use Rattle.index_document.specs.Terms as by_id
+use Rattle.index_document.specs.Terms.{TermDocument}
 use Rattle.index_versions.proofs.LeafLemmas.{taken, taken_words}
 use Rattle.index_versions.proofs.leaves.index_without_leaf.Goals as goal
 

@@ -2,7 +2,7 @@
 use Rattle.std.proofs.Common.{◌≡◌, ap, ◌∙◌, subst, sym, arith, true, true≢false, Option, IfSome}
 use Rattle.std.proofs.lemmas.List.{length-map}
 use Rattle.ft_base.specs.declared.ids.LeafId.{LeafId}
-use Rattle.doc_index.specs.Terms as by_id
+use Rattle.index_document.specs.Terms as by_id
 use Rattle.index_versions.specs.steps.Held.{place_following}
 use Rattle.index_versions.proofs.LeafLemmas.{place_found}
 use Rattle.index_versions.proofs.leaves.place_following.Goals as goal

@@ -1,6 +1,6 @@
 -- The leaves are different under their ids too, and the document means these leaves.
 use Rattle.std.proofs.Common.{◌+◌, ap, sym, ◌∙◌, arith}
-use Rattle.doc_index.specs.Terms.{are_distinct}
+use Rattle.index_document.specs.Terms.{are_distinct}
 use Rattle.index_meaning.specs.Documents.{leaf_ids}
 use Rattle.index_versions.specs.steps.Held.{held_of, documents_under}
 use Rattle.index_versions.proofs.LeafLemmas.{ids_under_leaves}

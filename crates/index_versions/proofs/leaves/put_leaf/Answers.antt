@@ -1,7 +1,7 @@
 -- The leaf is a new one, and the document with it means what it meant, with the leaf.
 use Rattle.std.proofs.Common.{◌+◌, ap, sym, ◌∙◌, arith}
-use Rattle.doc_index.specs.Terms as by_id
-use Rattle.doc_index.specs.Terms.{TermDocument, has}
+use Rattle.index_document.specs.Terms as by_id
+use Rattle.index_document.specs.Terms.{TermDocument, has}
 use Rattle.index_versions.specs.steps.Held.{Held, documents_under}
 use Rattle.index_versions.proofs.WordLemmas.{counted_there, named_size}
 use Rattle.index_versions.proofs.UpdateLemmas.{has_leaf_under, leaf_after_under, put_number, put_ready, put_means, put_next}

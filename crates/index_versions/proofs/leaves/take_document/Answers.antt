@@ -1,7 +1,7 @@
 -- The document is counted as it stands, and the others mean what they did.
 use Rattle.std.proofs.Common.{◌+◌, length, ap, sym, ◌∙◌, arith}
-use Rattle.doc_index.specs.Terms as by_id
-use Rattle.doc_index.specs.Terms.{TermDocument}
+use Rattle.index_document.specs.Terms as by_id
+use Rattle.index_document.specs.Terms.{TermDocument}
 use Rattle.index_versions.specs.steps.Held.{Held, documents_under}
 use Rattle.index_versions.proofs.DocumentLemmas.{has_under}
 use Rattle.index_versions.proofs.ExchangeLemmas.{without_under}

@@ -1,7 +1,7 @@
 -- The leaf is there, and the document without it means what it meant, without the leaf.
 use Rattle.std.proofs.Common.{◌+◌, ap, sym, ◌∙◌, arith}
-use Rattle.doc_index.specs.Terms as by_id
-use Rattle.doc_index.specs.Terms.{TermDocument, has}
+use Rattle.index_document.specs.Terms as by_id
+use Rattle.index_document.specs.Terms.{TermDocument, has}
 use Rattle.index_versions.specs.steps.Held.{Held, documents_under}
 use Rattle.index_versions.proofs.UpdateLemmas.{has_leaf_under, taken_number, taken_ready, taken_means, taken_next, taken_size}
 use Rattle.index_versions.proofs.leaves.take_leaf.Goals as goal

@@ -1,6 +1,6 @@
 -- One more leaf gets its ids.
 use Rattle.std.proofs.Common.{◌≡◌, ◌<◌, ◌+◌, ◌∷◌, ◌++◌, [], List, length, get_or, map, take, ap, sym, subst, ◌∙◌, arith}
-use Rattle.doc_index.specs.Terms as by_id
+use Rattle.index_document.specs.Terms as by_id
 use Rattle.index_meaning.specs.Documents.{Leaf}
 use Rattle.index_versions.specs.steps.Held.{leaf_under}
 use Rattle.index_versions.specs.steps.Naming.{all_words, entries_of, IsNamed}

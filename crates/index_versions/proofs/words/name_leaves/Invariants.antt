@@ -1,6 +1,6 @@
 -- The leaves up to the next one are made, and mean what they did.
 use Rattle.std.proofs.Common.{◌≡◌, map, take}
-use Rattle.doc_index.specs.Terms as by_id
+use Rattle.index_document.specs.Terms as by_id
 use Rattle.index_versions.specs.steps.Held.{leaf_under}
 use Rattle.index_versions.specs.steps.Naming.{all_words, entries_of, IsKnown, IsNamed}
 use Rattle.index_versions.proofs.words.name_leaves.Given as goal

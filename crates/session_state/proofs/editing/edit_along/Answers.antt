@@ -1,6 +1,6 @@
 -- What it costs to choose elements of the documents.
 use Rattle.std.proofs.Common.{◌≤◌, ◌+◌, subst, map}
-use Rattle.collections.specs.Indexed.{Indexed}
+use Rattle.document_store.specs.Indexed.{Indexed}
 use Rattle.path_meaning.specs.Collection.{documents}
 use Rattle.session_state.specs.PlannedPaths.{prices_in, run_over}
 use Rattle.session_state.proofs.editing.edit_along.Goals as goal

@@ -8,8 +8,8 @@ use Rattle.path_grammar.specs.Form.{steps}
 use Rattle.path_grammar.specs.View.{step}
 use Rattle.path_subset.specs.Answer.{path_read}
 use Rattle.path_subset.specs.Paths.{read_form}
-use Rattle.command_replies.specs.Replies.{is_refusal}
-use Rattle.command_replies.specs.declared.reply.Reply.{Reply}
+use Rattle.reply_lines.specs.Replies.{is_refusal}
+use Rattle.reply_lines.specs.declared.reply.Reply.{Reply}
 use Rattle.session_state.specs.KeptTexts.{kept_after}
 use Rattle.session_state.specs.MarkedWords.{answer_marked, answer_marked_read}
 use Rattle.session_state.specs.PathPrices.{are_cheap, is_cheap_path, read_price}

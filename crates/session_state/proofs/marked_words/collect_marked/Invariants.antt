@@ -2,7 +2,7 @@
 -- others too.
 use Rattle.std.proofs.Common.{◌≡◌, ◌≤◌, ◌+◌, ◌++◌, ◌∷◌, [], map, true}
 use Rattle.std.specs.List.{flat_map}
-use Rattle.collections.specs.Loaded.{to_document, trees_of}
+use Rattle.document_store.specs.Loaded.{to_document, trees_of}
 use Rattle.session_state.specs.PlannedPaths.{has_cheap_plans}
 use Rattle.session_state.specs.SelectionTests.{AreOverEach}
 use Rattle.session_state.specs.steps.Chosen.{prices_through}

@@ -1,7 +1,7 @@
 -- The runs are those of the plans, over the version that follows the documents.
 use Rattle.std.proofs.Common.{◌∙◌, ◌≤◌, ◌+◌, ℕ, sym, ap, subst, List, map}
-use Rattle.collections.specs.Indexed.{FollowsEach}
-use Rattle.collections.specs.Loaded.{to_document, trees_of}
+use Rattle.document_store.specs.Indexed.{FollowsEach}
+use Rattle.document_store.specs.Loaded.{to_document, trees_of}
 use Rattle.index_meaning.specs.Documents.{Numbered}
 use Rattle.path_meaning.specs.Collection.{Named, documents}
 use Rattle.plan_runs.specs.RunMeaning.{RunMeaning}

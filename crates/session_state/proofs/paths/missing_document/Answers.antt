@@ -1,7 +1,7 @@
 -- A document is missing where none has the name.
 use Rattle.std.proofs.Common.{◌≡◌, ◌∙◌, sym, ap, true, false, map, Some}
-use Rattle.collections.specs.Documents.{has_name}
-use Rattle.collections.specs.Loaded.{to_document}
+use Rattle.document_store.specs.Documents.{has_name}
+use Rattle.document_store.specs.Loaded.{to_document}
 use Rattle.session_state.proofs.PathLemmas.{missing-document}
 use Rattle.session_state.proofs.paths.missing_document.Goals as goal
 

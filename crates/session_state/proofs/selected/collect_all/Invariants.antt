@@ -3,7 +3,7 @@ use Rattle.std.proofs.Common.{◌≡◌, ◌≤◌, ◌+◌, ◌++◌, map, true
 use Rattle.std.specs.List.{flat_map}
 use Rattle.session_state.specs.PlannedPaths.{has_cheap_plans, planned_lines, prices_in}
 use Rattle.session_state.specs.SelectionTests.{AreOverEach}
-use Rattle.collections.specs.Loaded.{to_document, trees_of}
+use Rattle.document_store.specs.Loaded.{to_document, trees_of}
 use Rattle.session_state.proofs.selected.collect_all.Given as goal
 
 abbrev pub invariant-loop-name : goal.invariant-loop-name

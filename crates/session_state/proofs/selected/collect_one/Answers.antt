@@ -9,7 +9,7 @@ use Rattle.path_meaning.specs.Collection.{documents}
 use Rattle.path_grammar.specs.declared.path.PathRoot.TheVariants.{Doc}
 use Rattle.session_state.specs.PlannedPaths.{planned_lines, planned_price, prices_in}
 use Rattle.session_state.specs.SelectionTests.{AreOver}
-use Rattle.collections.specs.Loaded.{to_document}
+use Rattle.document_store.specs.Loaded.{to_document}
 use Rattle.session_state.proofs.NamedLemmas.{found-tree, none-named, one-named}
 use Rattle.session_state.proofs.PathLemmas.{prices-one}
 use Rattle.session_state.proofs.selected.collect_one.Goals as goal

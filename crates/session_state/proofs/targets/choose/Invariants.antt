@@ -1,6 +1,6 @@
 -- The elements of the documents so far, and those of the others, are all, and so are the prices; the runs are as they were, over the others too.
 use Rattle.std.proofs.Common.{◌≡◌, ◌≤◌, ◌+◌, ◌||◌, ◌++◌, List, map, true}
-use Rattle.collections.specs.Loaded.{to_document, trees_of}
+use Rattle.document_store.specs.Loaded.{to_document, trees_of}
 use Rattle.ft_base.specs.declared.ids.NodeRef.{NodeRef}
 use Rattle.session_state.specs.Edits.{has_root, target_count}
 use Rattle.session_state.specs.PlannedPaths.{has_cheap_plans}

@@ -1,6 +1,6 @@
 -- The turns of the documents so far, and those of the others, are all, and so are the prices; the runs are as they were, over the others too.
 use Rattle.std.proofs.Common.{◌≡◌, ◌≤◌, ◌+◌, ◌++◌, map, drop, length, true}
-use Rattle.collections.specs.Loaded.{to_document, trees_of}
+use Rattle.document_store.specs.Loaded.{to_document, trees_of}
 use Rattle.session_state.specs.PlannedPaths.{has_cheap_plans}
 use Rattle.session_state.specs.SelectionTests.{AreOverEach}
 use Rattle.session_state.specs.Standings.{unknown_price}

@@ -2,8 +2,8 @@
 use Rattle.std.proofs.Common.{◌≡◌, ◌∙◌, ◌≤◌, ◌+◌, ℕ, sym, ap, subst, List, length, map}
 use Rattle.std.specs.Prelude.{IfOk}
 use Rattle.std.proofs.lemmas.List.{length-map}
-use Rattle.collections.specs.Indexed.{FollowsEach}
-use Rattle.collections.specs.Loaded.{to_document, trees_of}
+use Rattle.document_store.specs.Indexed.{FollowsEach}
+use Rattle.document_store.specs.Loaded.{to_document, trees_of}
 use Rattle.index_meaning.specs.Documents.{Numbered}
 use Rattle.path_meaning.specs.Collection.{Named}
 use Rattle.plan_runs.specs.RunMeaning.{RunMeaning}

@@ -1,7 +1,7 @@
 -- The path is asked by its plans, or refused.
 use Rattle.std.proofs.Common.{◌≡◌, ◌∙◌, ◌≤◌, ◌+◌, sym, ap, subst, ℕ, List, length, map}
 use Rattle.std.specs.Prelude.{None}
-use Rattle.collections.specs.Indexed.{Indexed}
+use Rattle.document_store.specs.Indexed.{Indexed}
 use Rattle.path_grammar.specs.Form.{steps}
 use Rattle.path_grammar.specs.View.{step}
 use Rattle.path_meaning.specs.Collection.{Named}

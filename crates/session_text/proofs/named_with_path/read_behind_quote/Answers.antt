@@ -1,7 +1,7 @@
 -- What a name in quotation marks says, and the path behind it.
 use Rattle.std.proofs.Common.{◌≡◌, ◌∙◌, sym, ap, subst, true, false, rules}
 use Rattle.std.specs.Prelude.{Some, None, MatchOption}
-use Rattle.command_replies.specs.Names.{is_quoted_name}
+use Rattle.reply_lines.specs.Names.{is_quoted_name}
 use Rattle.ft_base.specs.Lists.{is_empty}
 use Rattle.session_text.specs.Quoted.{unquoted_on}
 use Rattle.session_text.proofs.CommandLemmas.{bad_quoted_name, good_quoted_name}

@@ -1,8 +1,8 @@
 -- What the words of a command line say.
 use Rattle.std.proofs.Common.{◌≡◌, ◌∙◌, sym, ap, subst, cond}
 use Rattle.std.specs.Prelude.{IfOk}
-use Rattle.command_replies.specs.declared.command.Command.{Command}
-use Rattle.command_replies.specs.declared.command.Command.TheVariants.{BadCommand}
+use Rattle.reply_lines.specs.declared.command.Command.{Command}
+use Rattle.reply_lines.specs.declared.command.Command.TheVariants.{BadCommand}
 use Rattle.session_text.specs.LineCommands.{command_of_line, line_command}
 use Rattle.text_lines.specs.Lines.{trimmed_line, first_word, after_first_word}
 use Rattle.session_text.proofs.parse.read_line.Goals as goal

@@ -1,7 +1,7 @@
 -- The line closes the block, or is the block's next.
 use Rattle.std.proofs.Common.{◌∙◌, sym, ap, ◌++◌, ◌∷◌, []}
 use Rattle.std.specs.Prelude.{Option, Some, None}
-use Rattle.command_replies.specs.declared.command.Command.{Command}
+use Rattle.reply_lines.specs.declared.command.Command.{Command}
 use Rattle.session_text.specs.steps.Blocks.{without_last}
 use Rattle.session_text.specs.LineCommands.{command_of_block}
 use Rattle.session_text.specs.steps.PeriodReading.{OpenLines, open_lines}

@@ -2,7 +2,7 @@
 use Rattle.std.proofs.Common.{◌≡◌, ◌∙◌, sym, ap, false, ◌-◌, ◌++◌, ◌∷◌, [], length, take, drop, refl, rules}
 use Rattle.session_text.specs.PeriodBlocks.{closes_block, unquoted}
 use Rattle.std.specs.Prelude.{Option, Some, None}
-use Rattle.command_replies.specs.declared.command.Command.{Command}
+use Rattle.reply_lines.specs.declared.command.Command.{Command}
 use Rattle.session_text.specs.steps.PeriodReading.{OpenLines, after_lines, open_lines}
 use Rattle.session_text.proofs.HeldLemmas.{goes_on, kept_is}
 use Rattle.session_text.proofs.unfinished.end_held_line.Goals as goal

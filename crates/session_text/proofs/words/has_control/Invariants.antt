@@ -1,7 +1,7 @@
 -- No byte so far is a control.
 use Rattle.std.proofs.Common.{◌≡◌, drop}
 use Rattle.std.specs.List.{list_any}
-use Rattle.command_replies.specs.Names.{is_control_byte}
+use Rattle.reply_lines.specs.Names.{is_control_byte}
 use Rattle.session_text.proofs.words.has_control.Given as goal
 
 abbrev pub invariant-loop-byte : goal.invariant-loop-byte

@@ -1,6 +1,6 @@
 -- How many documents were passed, and how many more stand before the one of the name.
 use Rattle.std.proofs.Common.{◌≡◌, ◌+◌, length, map}
-use Rattle.collections.specs.Loaded.{to_document}
+use Rattle.document_store.specs.Loaded.{to_document}
 use Rattle.stamped_documents.specs.steps.Places.{documents_before}
 use Rattle.stamped_documents.proofs.stamping.place_of.Given as goal
 

@@ -1,7 +1,7 @@
 -- Both directions are lemmas.
 use Rattle.std.proofs.Common.{length, subst}
 use Rattle.ft_parser.specs.Answer.{selection_read}
-use Rattle.query_symbols.specs.Symbols.{symbols_of}
+use Rattle.query_lexer.specs.Symbols.{symbols_of}
 use Rattle.ft_parser.proofs.SelectedExact.{selects_read, refuses_read}
 use Rattle.ft_parser.proofs.SelectedLaws.{Outcome, all_read}
 use Rattle.ft_parser.proofs.laws.selection.reading_law.Goals as goal

@@ -1,6 +1,6 @@
 -- A term whose id may not stand in the group of a document doesn't stand there.
 use Rattle.std.proofs.Common.{ap, sym, ◌∙◌}
-use Rattle.term_groups.specs.Groups.{in_group}
+use Rattle.index_groups.specs.Groups.{in_group}
 use Rattle.index_versions.specs.Versions.{stands_in}
 use Rattle.index_versions.specs.steps.Sound.{meaning}
 use Rattle.index_versions.proofs.GroupLemmas.{apart_stands}

@@ -1,7 +1,7 @@
 -- The leaves of a document have their numbers under what its ids name.
 use Rattle.std.proofs.Common.{◌≡◌, length, get_or, ap, ◌∙◌, arith}
-use Rattle.doc_index.specs.Terms.{TermDocument}
-use Rattle.doc_index.specs.Terms as by_id
+use Rattle.index_document.specs.Terms.{TermDocument}
+use Rattle.index_document.specs.Terms as by_id
 use Rattle.index_meaning.specs.Documents.{document_at, leaf_ids}
 use Rattle.index_versions.proofs.PlacesLemmas.{leaf_ids_are, leaf_there, leaves_are}
 use Rattle.index_versions.proofs.version.Version.leaf.Goals as goal

@@ -1,6 +1,6 @@
 -- A document has as many leaves as it means.
 use Rattle.std.proofs.Common.{length, ap, ◌∙◌}
-use Rattle.doc_index.specs.Terms.{TermDocument}
+use Rattle.index_document.specs.Terms.{TermDocument}
 use Rattle.index_meaning.specs.Documents.{document_at}
 use Rattle.index_versions.proofs.PlacesLemmas.{leaves_are}
 use Rattle.index_versions.proofs.version.Version.leaf_count.Goals as goal

@@ -1,7 +1,7 @@
 -- The ids of the span name its words.
 use Rattle.std.proofs.Common.{◌≡◌, ◌-◌, ◌++◌, map, ap, subst, ◌∙◌}
 use Rattle.std.specs.Prelude.{OnOk, slice_range}
-use Rattle.doc_index.specs.Terms as by_id
+use Rattle.index_document.specs.Terms as by_id
 use Rattle.index_meaning.specs.Documents.{document_at, words_of}
 use Rattle.index_versions.specs.steps.Held.{held_ids, word_of}
 use Rattle.index_versions.proofs.SpanWordLemmas.{words_between}

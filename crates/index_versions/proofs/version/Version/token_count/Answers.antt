@@ -1,6 +1,6 @@
 -- A document has as many ids as words.
 use Rattle.std.proofs.Common.{length, ap, ◌∙◌}
-use Rattle.doc_index.specs.Terms.{TermDocument, words_of}
+use Rattle.index_document.specs.Terms.{TermDocument, words_of}
 use Rattle.index_meaning.specs.Documents.{document_at}
 use Rattle.index_versions.proofs.PlacesLemmas.{tokens_are}
 use Rattle.index_versions.proofs.version.Version.token_count.Goals as goal

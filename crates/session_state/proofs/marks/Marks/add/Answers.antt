@@ -5,7 +5,7 @@ use Rattle.std.specs.HashMap.{get}
 use Rattle.std.specs.List.{AllByRecursion}
 use Rattle.std.specs.Map.{lookup}
 use Rattle.std.specs.Str.{bytes_eq}
-use Rattle.collections.specs.Indexed.{Indexed, IsIndexOf}
+use Rattle.document_store.specs.Indexed.{Indexed, IsIndexOf}
 use Rattle.indexmap.proofs.CallerLemmas.{insert_entry-new}
 use Rattle.session_state.specs.KeptMarks.{IsOwnIndex}
 use Rattle.session_state.proofs.MarkLemmas.{own-more, Entry}

@@ -5,8 +5,8 @@ use Rattle.std.specs.Map.{lookup}
 use Rattle.std.specs.Str.{bytes_eq}
 use Rattle.std.proofs.lemmas.Bool.Decides.{nat_tests}
 use Rattle.ft_base.specs.Limits.{max_marks}
-use Rattle.command_replies.specs.declared.reply.Reply.TheVariants.{Done, Refused}
-use Rattle.command_replies.specs.declared.reply.Refusal.TheVariants.{NameTaken}
+use Rattle.reply_lines.specs.declared.reply.Reply.TheVariants.{Done, Refused}
+use Rattle.reply_lines.specs.declared.reply.Refusal.TheVariants.{NameTaken}
 use Rattle.session_state.specs.KeptMarks.{marks_of}
 use Rattle.session_state.proofs.MarkLemmas.{answered, marks-more, put-by, with_reply, Entry}
 use Rattle.session_state.proofs.marks.Marks.put.Goals as goal

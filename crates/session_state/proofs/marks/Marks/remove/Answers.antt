@@ -4,8 +4,8 @@ use Rattle.std.specs.Prelude.{is_some, None}
 use Rattle.std.specs.List.{AllByRecursion}
 use Rattle.std.specs.Map.{lookup}
 use Rattle.std.specs.Str.{bytes_eq}
-use Rattle.command_replies.specs.declared.reply.Reply.TheVariants.{Done, Refused}
-use Rattle.command_replies.specs.declared.reply.Refusal.TheVariants.{NoSuchName}
+use Rattle.reply_lines.specs.declared.reply.Reply.TheVariants.{Done, Refused}
+use Rattle.reply_lines.specs.declared.reply.Refusal.TheVariants.{NoSuchName}
 use Rattle.session_state.specs.KeptMarks.{marks_of, IsOwnIndex}
 use Rattle.session_state.specs.Marks.{without_mark}
 use Rattle.session_state.specs.State.{Mark}

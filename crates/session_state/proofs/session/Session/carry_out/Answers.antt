@@ -1,8 +1,8 @@
 -- What a watch that is set keeps.
 use Rattle.std.proofs.Common.{◌≡◌, sym, subst, false}
 use Rattle.std.specs.Prelude.{IfOk}
-use Rattle.command_replies.specs.Replies.{is_refusal}
-use Rattle.command_replies.specs.declared.command.Command.{Command}
+use Rattle.reply_lines.specs.Replies.{is_refusal}
+use Rattle.reply_lines.specs.declared.command.Command.{Command}
 use Rattle.session_state.specs.StampsAfter.{standings_after}
 use Rattle.session_state.proofs.session.Session.carry_out.Goals as goal
 

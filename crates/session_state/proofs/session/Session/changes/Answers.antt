@@ -5,7 +5,7 @@ use Rattle.std.specs.Map.{lookup}
 use Rattle.std.specs.Option.{option_copied}
 use Rattle.std.specs.Str.{bytes_eq}
 use Rattle.path_subset.specs.Answer.{path_read}
-use Rattle.command_replies.specs.declared.reply.Reply.TheVariants.{Refused}
+use Rattle.reply_lines.specs.declared.reply.Reply.TheVariants.{Refused}
 use Rattle.session_state.specs.Held.{Held}
 use Rattle.session_state.specs.KeptWatches.{standings_of, watches_of}
 use Rattle.session_state.specs.PathPrices.{is_cheap_watch, price_of_changes}

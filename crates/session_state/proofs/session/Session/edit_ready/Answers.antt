@@ -5,7 +5,7 @@ use Rattle.ft_base.specs.declared.memory.Memory.{Memory}
 use Rattle.kept_plans.specs.Preparation.{texts_of}
 use Rattle.path_subset.specs.Answer.{path_read}
 use Rattle.path_subset.specs.Paths.{read_form}
-use Rattle.command_replies.specs.declared.reply.Reply.{Reply}
+use Rattle.reply_lines.specs.declared.reply.Reply.{Reply}
 use Rattle.session_state.specs.Edits.{edit_path, target_refusal, touched_path}
 use Rattle.session_state.specs.Held.{Held}
 use Rattle.session_state.specs.KeptTexts.{keep_plans}
@@ -16,7 +16,7 @@ use Rattle.session_state.specs.Standings.{AreCurrent}
 use Rattle.session_state.specs.StampsAfter.{KeepOthersRead}
 use Rattle.session_state.specs.StateView.{prepared_of}
 use Rattle.session_state.specs.steps.Chosen.{edit_of, planned_places}
-use Rattle.command_replies.specs.Replies.{is_refusal}
+use Rattle.reply_lines.specs.Replies.{is_refusal}
 use Rattle.session_state.proofs.EditLemmas.{edit-kept, replied, touched-ready, with_prepared_in}
 use Rattle.session_state.proofs.PathLemmas.{planned-prices, ready-plan, texts-under}
 use Rattle.session_state.proofs.ChosenLemmas.{planned-places}

@@ -1,5 +1,5 @@
 -- A document that comes has a stamp that no watch knows.
-use Rattle.collections.specs.Documents.{loadable}
+use Rattle.document_store.specs.Documents.{loadable}
 use Rattle.session_state.proofs.StandingLemmas.{loaded-current}
 use Rattle.session_state.proofs.session.Session.load.Goals as goal
 

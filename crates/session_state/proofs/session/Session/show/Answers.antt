@@ -1,7 +1,7 @@
 -- The path is answered by the documents and the lists, and its plans are kept.
 use Rattle.std.proofs.Common.{refl, sym, ap, subst, ◌≡◌, ◌∙◌, ◌≤◌, ◌+◌, ℕ}
 use Rattle.std.specs.Prelude.{IfOk}
-use Rattle.collections.specs.Indexed.{Indexed}
+use Rattle.document_store.specs.Indexed.{Indexed}
 use Rattle.path_subset.specs.Answer.{path_read}
 use Rattle.session_state.specs.Held.{Held}
 use Rattle.session_state.specs.PathPrices.{is_cheap_path, read_price}

@@ -3,7 +3,7 @@ use Rattle.std.proofs.Common.{◌≡◌, ◌∙◌, ◌≤◌, ◌+◌, refl, sy
 use Rattle.std.specs.Prelude.{None, Result, IfOk, OnOk}
 use Rattle.std.specs.Str.{bytes_eq}
 use Rattle.indexmap.specs.IndexMap.{insert_entry}
-use Rattle.collections.specs.Indexed.{Indexed}
+use Rattle.document_store.specs.Indexed.{Indexed}
 use Rattle.ft_base.specs.declared.memory.Memory.{Memory}
 use Rattle.kept_plans.specs.Kept.{all_used}
 use Rattle.kept_plans.specs.Preparation.{texts_of}
@@ -11,8 +11,8 @@ use Rattle.plan_compiler.specs.NamedLists.{NamedLists}
 use Rattle.path_meaning.specs.Collection.{Named}
 use Rattle.path_subset.specs.Answer.{path_read}
 use Rattle.path_subset.specs.Paths.{read_form}
-use Rattle.command_replies.specs.Replies.{is_refusal}
-use Rattle.command_replies.specs.declared.reply.Reply.{Reply}
+use Rattle.reply_lines.specs.Replies.{is_refusal}
+use Rattle.reply_lines.specs.declared.reply.Reply.{Reply}
 use Rattle.session_state.specs.Held.{Held}
 use Rattle.session_state.specs.KeptTexts.{kept_after}
 use Rattle.session_state.specs.KeptWatches.{kept_watch, standings_of, watches_of}

@@ -4,8 +4,8 @@ use Rattle.std.specs.Prelude.{is_some, nat_le, Some}
 use Rattle.std.specs.Map.{lookup}
 use Rattle.std.specs.Str.{bytes_eq}
 use Rattle.std.proofs.lemmas.Bool.Decides.{nat_tests}
-use Rattle.command_replies.specs.Limits.{max_watches}
-use Rattle.command_replies.specs.declared.reply.Refusal.TheVariants.{NameTaken}
+use Rattle.reply_lines.specs.Limits.{max_watches}
+use Rattle.reply_lines.specs.declared.reply.Refusal.TheVariants.{NameTaken}
 use Rattle.session_state.proofs.WatchLemmas.{refused-by, Entry}
 use Rattle.session_state.proofs.watches.Watches.refusal.Goals as goal
 

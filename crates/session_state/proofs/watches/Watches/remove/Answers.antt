@@ -3,8 +3,8 @@ use Rattle.std.proofs.Common.{◌≡◌, ◌∙◌, sym, ap, true, false, List}
 use Rattle.std.specs.Prelude.{is_some, None}
 use Rattle.std.specs.Map.{lookup}
 use Rattle.std.specs.Str.{bytes_eq}
-use Rattle.command_replies.specs.declared.reply.Reply.TheVariants.{Done, Refused}
-use Rattle.command_replies.specs.declared.reply.Refusal.TheVariants.{NoSuchName}
+use Rattle.reply_lines.specs.declared.reply.Reply.TheVariants.{Done, Refused}
+use Rattle.reply_lines.specs.declared.reply.Refusal.TheVariants.{NoSuchName}
 use Rattle.session_state.specs.KeptWatches.{watches_of}
 use Rattle.session_state.specs.State.{Watch}
 use Rattle.session_state.specs.Watches.{without_watch}

@@ -1,7 +1,7 @@
 -- A command that is whole with the last line is all that is left, and else the one whose block was to follow.
 use Rattle.std.proofs.Common.{◌≡◌, ◌∙◌, sym, ap, ◌∷◌, [], length, arith, rules}
 use Rattle.std.proofs.lemmas.Result.{IfOk-weaker}
-use Rattle.command_replies.specs.declared.command.Command.TheVariants as command
+use Rattle.reply_lines.specs.declared.command.Command.TheVariants as command
 use Rattle.session_text.specs.steps.SizedReading.{SizedPlace}
 use Rattle.session_text.proofs.SizedEndLemmas.{end_blocks, end_in_block, end_last, end_nothing, end_readable, end_whole, last_blocks_held, last_readable_as}
 use Rattle.session_text.proofs.SizedPartLemmas.{end_counted}

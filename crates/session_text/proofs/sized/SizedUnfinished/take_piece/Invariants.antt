@@ -1,7 +1,7 @@
 -- The commands so far and those of what is left are all.
 use Rattle.std.proofs.Common.{◌≡◌, ℕ, ◌+◌, ◌≤◌, Bool, true, List, ◌++◌, length}
 use Rattle.std.specs.List.{list_all}
-use Rattle.command_replies.specs.Given.{block_lengths, is_readable}
+use Rattle.reply_lines.specs.Given.{block_lengths, is_readable}
 use Rattle.session_text.specs.steps.SizedReading.{IsSizedPlace, bytes_held, sized_commands_from, sized_held_length}
 use Rattle.session_text.proofs.sized.SizedUnfinished.take_piece.Given as goal
 

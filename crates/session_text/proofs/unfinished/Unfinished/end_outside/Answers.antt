@@ -1,7 +1,7 @@
 -- A line of which nothing was held.
 use Rattle.std.proofs.Common.{◌≡◌, ◌∙◌, sym, ap, subst, ◌+◌, ◌++◌, [], length, rules}
 use Rattle.std.specs.Prelude.{Option, None, IfOk}
-use Rattle.command_replies.specs.declared.command.Command.{Command}
+use Rattle.reply_lines.specs.declared.command.Command.{Command}
 use Rattle.session_text.specs.steps.PeriodReading.{OpenLines, after_lines, between_lines, ended_at, line_ended}
 use Rattle.session_text.proofs.HeldLemmas.{no_bytes, outside_rest}
 use Rattle.session_text.proofs.unfinished.Unfinished.end_outside.Goals as goal

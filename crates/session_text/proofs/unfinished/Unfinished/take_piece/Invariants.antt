@@ -2,7 +2,7 @@
 use Rattle.std.proofs.Common.{◌≡◌, ℕ, ◌+◌, ◌≤◌, Bool, true, List, ◌++◌, length}
 use Rattle.std.specs.List.{list_all, position_or_len}
 use Rattle.ft_base.specs.Characters.{is_line_feed}
-use Rattle.command_replies.specs.Given.{block_lengths, is_readable}
+use Rattle.reply_lines.specs.Given.{block_lengths, is_readable}
 use Rattle.session_text.specs.steps.PeriodReading.{commands_from, held_length, is_unended}
 use Rattle.session_text.proofs.unfinished.Unfinished.take_piece.Given as goal
 

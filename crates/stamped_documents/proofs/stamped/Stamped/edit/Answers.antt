@@ -1,6 +1,6 @@
 -- The documents that change get new stamps, and each other keeps its own.
 use Rattle.std.proofs.Common.{◌≡◌, ◌∙◌, ◌+◌, ℕ, length, ap, sym, subst, rules}
-use Rattle.collections.specs.Targets.{edit_of, places_of_targets}
+use Rattle.document_store.specs.Targets.{edit_of, places_of_targets}
 use Rattle.stamped_documents.specs.Stamped.{StampedDocuments}
 use Rattle.stamped_documents.specs.Stamps.{AreStamps, restamped}
 use Rattle.stamped_documents.proofs.DocumentLemmas.{edited-count, restamped-places}

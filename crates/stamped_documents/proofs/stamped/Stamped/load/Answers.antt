@@ -1,6 +1,6 @@
 -- The new stamp is that of the new document.
 use Rattle.std.proofs.Common.{◌≡◌, ◌++◌, ◌∷◌, [], ◌+◌, ℕ, length, sym, subst, rules}
-use Rattle.collections.specs.Documents.{loadable}
+use Rattle.document_store.specs.Documents.{loadable}
 use Rattle.stamped_documents.specs.Stamps.{AreStamps}
 use Rattle.stamped_documents.proofs.DocumentLemmas.{loaded-count}
 use Rattle.stamped_documents.proofs.StampLemmas.{stamps-more}

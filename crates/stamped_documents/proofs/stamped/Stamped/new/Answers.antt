@@ -1,6 +1,6 @@
 -- No stamps, of no documents.
 use Rattle.std.proofs.Common.{length, sym, subst}
-use Rattle.collections.specs.Indexed.{Indexed}
+use Rattle.document_store.specs.Indexed.{Indexed}
 use Rattle.stamped_documents.specs.Stamps.{AreStamps}
 use Rattle.stamped_documents.proofs.StampLemmas.{no-stamps}
 use Rattle.stamped_documents.proofs.stamped.Stamped.new.Goals as goal

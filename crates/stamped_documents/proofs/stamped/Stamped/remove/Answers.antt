@@ -1,7 +1,7 @@
 -- The stamp that goes is that of the document.
 use Rattle.std.proofs.Common.{◌≡◌, ◌∙◌, length, ap, sym, subst, rules, true, arith}
 use Rattle.std.specs.List.{remove}
-use Rattle.collections.specs.Documents.{has_name}
+use Rattle.document_store.specs.Documents.{has_name}
 use Rattle.stamped_documents.specs.Stamped.{StampedDocuments}
 use Rattle.stamped_documents.specs.Stamps.{AreStamps, without_stamp}
 use Rattle.stamped_documents.proofs.DocumentLemmas.{dropped-count, dropped-there, place-less, without-place}

@@ -1,6 +1,0 @@
--- Where no name is, none stands twice.
-use Rattle.collections.proofs.NameLemmas.{distinct-none}
-use Rattle.collections.proofs.names.Names.push.Goals as goal
-
-pub with_name-requires-clause-distinct : goal.with_name-requires-clause-distinct
-with_name-requires-clause-distinct c = distinct-none

@@ -1,8 +1,0 @@
--- What is made of the same parts is as sound as they are.
-use Rattle.doc_index.proofs.SoundLemmas.{sound-copy}
-use Rattle.doc_index.proofs.doc_index.DocIndex.copy.Goals as goal
-
-pub invariant_of-result : goal.invariant_of-result
-invariant_of-result c =
-    let copy = c.in_ok-parts.ensures in
-    sound-copy c.self.inside.parts c.in_ok-parts.parts copy.leaves copy.ids copy.starts copy.rows c.self.invariant
