@@ -9,7 +9,7 @@ use Rattle.plan_runs.specs.Judgement.{Judgement}
 use Rattle.reply_lines.specs.declared.command.Command.{Command}
 use Rattle.reply_lines.specs.declared.reply.Reply.{Reply}
 use Rattle.session_text.specs.Commands.{commands, whole}
-use Rattle.session_text.specs.steps.Reading.{Reading, new_reading, commands_left, whole_left}
+use Rattle.session_text.specs.Reading.{Reading, new_reading, commands_left, whole_left}
 use Rattle.reply_lines.specs.Replies.{is_refusal, reply_text}
 use Rattle.session_state.specs.State.{State, opening}
 use Rattle.session_state.specs.Step.{replies, state_after, step}

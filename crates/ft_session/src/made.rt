@@ -4,7 +4,7 @@ ghost use Rattle.std.specs.Prelude.{◌≡◌, ◌++◌, ◌∷◌, [], ◌+◌,
 ghost use Rattle.ft_base.specs.Limits.{max_documents};
 ghost use Rattle.made_sessions.specs.Made.{made};
 ghost use Rattle.session_text.specs.Commands.{commands};
-ghost use Rattle.session_text.specs.steps.Reading.{new_reading};
+ghost use Rattle.session_text.specs.Reading.{new_reading};
 ghost use Rattle.session_state.specs.State.{opening};
 ghost use Rattle.ft_session.specs.Output.{has_refusal, short_output};
 ghost use Rattle.ft_session.specs.Run.{TookPrefix, with_text};

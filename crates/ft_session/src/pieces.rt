@@ -1,6 +1,6 @@
 ghost use Rattle.std.specs.Prelude.{◌≡◌, ◌++◌, ◌+◌, ◌^◌, ◌<◌, [], List, ℕ, length, string_bytes, IfOk, IsErrOf, OnErr, OnOk};
 ghost use Rattle.std.specs.List.{list_any};
-ghost use Rattle.session_text.specs.steps.Reading.{commands_left, new_reading};
+ghost use Rattle.session_text.specs.Reading.{commands_left, new_reading};
 ghost use Rattle.reply_lines.specs.Replies.{is_refusal};
 ghost use Rattle.session_state.specs.State.{opening};
 ghost use Rattle.session_state.specs.Step.{replies};

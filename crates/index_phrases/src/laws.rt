@@ -1,12 +1,12 @@
 //! What the hits of a phrase over an index have to do with the tokens of its documents.
 
-ghost use Rattle.std.specs.Prelude.{◌≡◌, ◌-◌, ◌==◌, ◌&&◌, ℕ, suc, List, drop, filter, length, map};
+ghost use Rattle.std.specs.Prelude.{◌≡◌, ◌<◌, ◌+◌, ◌-◌, ◌==◌, ◌&&◌, ℕ, suc, List, drop, filter, length, map};
 ghost use Rattle.std.specs.List.{list_any};
 ghost use Rattle.ft_base.specs.declared.options.Options.{Options};
 ghost use Rattle.ft_base.specs.declared.span.Span.{Span};
 ghost use Rattle.ft_base.specs.declared.token.Token.{Token};
 ghost use Rattle.all_matches.specs.Counting.{begins_as};
-ghost use Rattle.all_matches.specs.Hits.{hit_on, hits, passes_item};
+ghost use Rattle.all_matches.specs.Hits.{hit_on, hits, paragraph_at, passes_item, sentence_at};
 ghost use Rattle.all_matches.specs.Spans.{in_span, renumbered};
 ghost use Rattle.all_matches.specs.Variants.{Item, Lexicon, variants};
 ghost use Rattle.index_cursors.specs.SpanHits.{started};
@@ -32,6 +32,14 @@ pub fn span_tokens_law()
     ensures { (document : Document) (tokens : List Token) (span : Span) → IsText document tokens → IsSpan span document
         → span_tokens span document
         ≡ map (renumbered (λ n. n - (started document.sentences span.from - 1)) (λ n. n - (started document.paragraphs span.from - 1))) (in_span span tokens) }
+{}
+
+/// Such a token has, in the document's numbers, the sentence and the paragraph that start at its place or last before it.
+pub fn span_numbers_law()
+    ensures sentences { (document : Document) (tokens : List Token) (span : Span) → IsText document tokens → IsSpan span document
+        → (i : ℕ) → i < length (in_span span tokens) → sentence_at (in_span span tokens) (suc i) ≡ started document.sentences (span.from + i) }
+    ensures paragraphs { (document : Document) (tokens : List Token) (span : Span) → IsText document tokens → IsSpan span document
+        → (i : ℕ) → i < length (in_span span tokens) → paragraph_at (in_span span tokens) (suc i) ≡ started document.paragraphs (span.from + i) }
 {}
 
 /// Where a phrase's variants by terms stand as the phrase's own do, its hits in a span of a document are those that it has among

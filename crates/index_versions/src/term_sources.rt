@@ -1,10 +1,12 @@
-ghost use Rattle.std.specs.Prelude.{◌≡◌, ◌+◌, ◌++◌, ◌∷◌, [], true, length, map, OnErr, OnOk};
-ghost use Rattle.std.specs.List.{All, list_any};
+ghost use Rattle.std.specs.Prelude.{◌≡◌, ◌+◌, ◌-◌, ◌^◌, ◌++◌, ◌∷◌, [], min, true, length, map, OnErr, OnOk};
+ghost use Rattle.std.specs.List.{All, list_any, sum_by};
 ghost use Rattle.ft_base.specs.Lists.{is_empty};
 ghost use Rattle.index_meaning.specs.Documents.{has_document};
+ghost use Rattle.index_meaning.specs.Index.{document_count};
 ghost use Rattle.index_versions.specs.FirstPlaces.{soonest};
 ghost use Rattle.index_versions.specs.Terms.{aimed_at, first_in};
-ghost use Rattle.index_versions.specs.Versions.{stands_in};
+ghost use Rattle.index_versions.specs.Versions.{stands_in, term_at};
+ghost use Rattle.text_forms.specs.Forms.{key_of};
 
 use crate::first_places::sooner;
 use crate::term_cursor::TermCursor;
@@ -62,13 +64,11 @@ impl<'v> TermSources<'v> {
         Ok(())
     }
 
-    /// In how many documents they stand; a document counts once for each of them.
-    pub fn document_count(&self) -> u64 {
-        let mut documents: u64 = 0;
-        for source in &self.sources {
-            documents = documents.saturating_add(source.document_count() as u64);
-        }
-        documents
+    /// In how many documents they stand; a document counts once for each of them. What is more than the number can hold is the most that it holds.
+    pub fn document_count(&self) -> u64
+        ensures { result ≡ min (sum_by (λ source. document_count key_of (term_at source.term source.version) source.version) self.now) (2 ^ 64 - 1) }
+    {
+        count_all(&self.sources)
     }
 
     /// The first place of one of them in the span of the document, and `None` where none has one there.
@@ -111,6 +111,16 @@ impl<'v> TermSources<'v> {
     {
         aim_all(&mut self.sources, cursors, doc, span, steps);
     }
+}
+
+fn count_all(sources: &Vec<TermSource<'_>>) -> u64
+    ensures { result ≡ min (sum_by (λ source. document_count key_of (term_at source.term source.version) source.version) sources.now.items) (2 ^ 64 - 1) }
+{
+    let mut documents: u64 = 0;
+    for source in sources {
+        documents = documents.saturating_add(source.document_count() as u64);
+    }
+    documents
 }
 
 fn first_of(sources: &Vec<TermSource<'_>>, doc: DocId, span: Span) -> Option<u32>

@@ -1,6 +1,6 @@
 //! What holds: each law is the contract of a function without a body.
 
-ghost use Rattle.std.specs.Prelude.{◌≡◌, ◌≢◌, ℕ, List, length, All, AllPairs, Contains};
+ghost use Rattle.std.specs.Prelude.{◌≡◌, ◌≢◌, ◌≤◌, ◌+◌, ℕ, List, length, All, AllPairs, Contains};
 ghost use Rattle.plain_tree.specs.Document.{Node};
 ghost use Rattle.ordered_tree.specs.Counts.{word_count};
 ghost use Rattle.ordered_tree.specs.Numbered.{Numbered, plain, reference};
@@ -19,6 +19,11 @@ pub fn shift_law()
 /// The words of a node are as many as are counted of it.
 pub fn count_law()
     ensures { (n : Node) → length (words_in n) ≡ word_count n }
+{}
+
+/// The words of a node, and those before it, are among the document's.
+pub fn words_inside_law()
+    ensures { (root : Numbered) → All (λ s. s.around.before + word_count (plain s.node) ≤ word_count (plain root)) (stands_in root) }
 {}
 
 /// A document whose nodes get references is the same without them.

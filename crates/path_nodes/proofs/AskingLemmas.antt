@@ -32,11 +32,12 @@ module _ (root : Numbered) (m : Meaning) (conditions : List form.Condition) (ask
   pub of-predicates : (ps : form.Predicates) (n : ℕ) → StandFrom conditions n (in_predicates ps) → OfPredicates P ps
   of-predicates ps n h = (asked-predicates P ps).0 (parts-ask (in_predicates ps) n h)
 
-at-number : (P : ℕ → Type 0) (cs : List form.Condition) (n : ℕ) (c : form.Condition) (rest : List form.Condition) → drop n cs ≡ c ∷ rest → All (Asks P) cs → Asks P c
+-- what holds of each condition holds of the one of a number
+pub at-number : (P : form.Condition → Type 0) (cs : List form.Condition) (n : ℕ) (c : form.Condition) (rest : List form.Condition) → drop n cs ≡ c ∷ rest → All P cs → P c
 at-number P [] zero c rest is h = cc
 at-number P [] (suc n) c rest is h = cc
-at-number P (x ∷ cs) zero c rest is h = let same : x ≡ c = cc in subst (Asks P) same (All-head (Asks P) x cs h)
-at-number P (x ∷ cs) (suc n) c rest is h = at-number P cs n c rest is (All-tail (Asks P) x cs h)
+at-number P (x ∷ cs) zero c rest is h = let same : x ≡ c = cc in subst P same (All-head P x cs h)
+at-number P (x ∷ cs) (suc n) c rest is h = at-number P cs n c rest is (All-tail P x cs h)
 
 pub are-asked : (root : Numbered) (m : Meaning) (ss : form.Steps) → OfEach (MayAsk root m) ss → AreAsked root m (in_steps ss)
-are-asked root m ss h number s k ps (rest, is) = at-number (MayAsk root m) (in_steps ss) number (form.contains s k ps) rest is ((asked-steps (MayAsk root m) ss).1 h)
+are-asked root m ss h number s k ps (rest, is) = at-number (Asks (MayAsk root m)) (in_steps ss) number (form.contains s k ps) rest is ((asked-steps (MayAsk root m) ss).1 h)

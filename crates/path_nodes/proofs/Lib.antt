@@ -22,6 +22,7 @@ pub mod TestLemmas
 pub mod PriceLemmas
 pub mod CostLemmas
 pub mod AskingLemmas
+pub mod GivenLemmas
 pub mod FoundLemmas
 pub mod OrderLemmas
 pub mod OfferedLemmas

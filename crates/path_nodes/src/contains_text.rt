@@ -1,4 +1,4 @@
-ghost use Rattle.std.specs.Prelude.{◌≡◌, ◌≤◌, ◌+◌, [], ℕ, All, false, IfOk, IsTrue};
+ghost use Rattle.std.specs.Prelude.{◌≡◌, ◌≤◌, ◌+◌, [], ℕ, All, Bool, false, true, IfOk, IsTrue};
 ghost use Rattle.path_nodes.specs.Says.{Meaning};
 
 use crate::Nodes;
@@ -32,6 +32,9 @@ pub trait TextTest {
 
 /// What answers `contains text` with `without content` too.
 pub trait HoleTest: TextTest {
+    /// Whether tests of this type may be given holes.
+    ghost takes_holes: { Bool };
+
     /// Whether the node satisfies the selection of this number when what the holes have in it is taken out of it. The holes are nodes in document order,
     /// each once; they may stand outside of the node, and one of them may be the node or hold it. It spends at most the price of the node. Answers
     /// `Memory` for want of memory alone.
@@ -41,6 +44,7 @@ pub trait HoleTest: TextTest {
         node: NodeRef,
         holes: &Nodes,
     ) -> Result<bool, Memory>
+        requires given { takes_holes ≡ true }
         requires node { IsTrue ((Self.meaning self.old).may_ask selection node) }
         requires holes { All (λ hole. IsTrue ((Self.meaning self.old).may_ask selection hole)) holes.now }
         ensures says { IfOk result (λ is. is ≡ (Self.meaning self.old).says selection holes.now node) }

@@ -6,7 +6,7 @@ ghost use Rattle.ordered_tree.specs.Numbered.{Numbered};
 ghost use Rattle.ordered_tree.specs.Stored.{numbered_code};
 ghost use Rattle.path_grammar.specs.Form.{Condition};
 ghost use Rattle.path_nodes.specs.Says.{Meaning};
-ghost use Rattle.path_nodes.specs.steps.Known.{AreAsked, AreRight, IsTruth};
+ghost use Rattle.path_nodes.specs.steps.Known.{AreAsked, AreGiven, AreRight, IsTruth};
 
 use crate::HoleTest;
 use ft_base::Memory;
@@ -59,6 +59,7 @@ pub(crate) struct Evaluation<'d, 't, 'k, T: HoleTest, G: Ground> {
     ghost root: { tree.now.root ≡ G.root } by { Coded-set numbered_code tree.now.root G.root },
     ghost meaning: { T.meaning test.now ≡ G.meaning },
     ghost asked: { AreAsked G.root G.meaning G.conditions },
+    ghost given: { AreGiven T.takes_holes G.conditions },
     ghost right: { AreRight G.root G.meaning G.conditions truths.now },
 }
 

@@ -7,6 +7,7 @@ mod conditions;
 mod contains_text;
 mod evaluation;
 mod kept;
+pub mod laws;
 mod leading;
 mod marks;
 mod names;

@@ -67,6 +67,7 @@ pub fn nodes_without<T: HoleTest>(
     test: &mut T,
 ) -> Result<Vec<NodeRef>, Memory>
     requires root { is_element tree.now.root ≡ true }
+    requires given { has_without (form.steps (map view.step steps.now)) ≡ true → T.takes_holes ≡ true }
     requires asked { OfEach (MayAsk tree.now.root (T.meaning test.old)) (form.steps (map view.step steps.now)) }
     ensures elements { IfOk result (λ found. map (element_of tree.now.root) found.items
         ≡ meaning.selected (satisfied tree.now.root (T.meaning test.old)) (form.steps (map view.step steps.now)) (plain tree.now.root)) }
@@ -106,6 +107,7 @@ fn selected_with<T: HoleTest, G: Ground>(
     requires element { is_element G.root ≡ true }
     requires meaning { T.meaning test.old ≡ G.meaning }
     requires conditions { in_path steps.now ≡ G.conditions }
+    requires given { has_without (form.steps (map view.step steps.now)) ≡ true → T.takes_holes ≡ true }
     requires asked { OfEach (MayAsk G.root G.meaning) (form.steps (map view.step steps.now)) }
     requires some { 0 < length steps.now }
     ensures elements { IfOk result (ReferTo G.root

@@ -1,6 +1,6 @@
 //! What selections say of elements, and what is ignored of them.
 
-ghost use Rattle.std.specs.Prelude.{◌≡◌, ◌+◌, ◌∷◌, [], All, IfOk, map};
+ghost use Rattle.std.specs.Prelude.{◌≡◌, ◌≢◌, ◌+◌, ◌∷◌, [], All, IfOk, map, true};
 ghost use Rattle.std.specs.List.{list_any};
 ghost use Rattle.ordered_tree.specs.Numbered.{plain};
 ghost use Rattle.path_grammar.specs.Form as form;
@@ -13,6 +13,7 @@ ghost use Rattle.path_nodes.specs.Prices as price;
 ghost use Rattle.path_nodes.specs.References.{IsElement, element_of};
 ghost use Rattle.path_nodes.specs.Says.{satisfied};
 ghost use Rattle.path_nodes.specs.steps.Found.{ReferTo, Spends};
+ghost use Rattle.path_nodes.specs.steps.Known.{MayGive};
 ghost use Rattle.path_nodes.specs.steps.Leading.{StandFrom, in_paths};
 
 use crate::evaluation::{Evaluation, Ground};
@@ -39,6 +40,7 @@ impl<'d, 't, 'k, T: HoleTest, G: Ground> Evaluation<'d, 't, 'k, T, G> {
         requires item { IsElement G.root item }
         requires nodes { All (IsElement G.root) nodes.now }
         requires asked { MayAsk G.root G.meaning selection }
+        requires given { MayGive T.takes_holes (form.paths (map view.relative_path paths.now)) }
         requires numbered { StandFrom G.conditions number (in_paths (form.paths (map view.relative_path paths.now))) }
         ensures truth { IfOk result (λ truth. truth
             ≡ list_any (satisfied G.root G.meaning selection (meaning.ignored (satisfied G.root G.meaning) (elements (plain G.root))
@@ -111,6 +113,7 @@ impl<'d, 't, 'k, T: HoleTest, G: Ground> Evaluation<'d, 't, 'k, T, G> {
         requires item { IsElement G.root item }
         requires holes { All (IsElement G.root) holes.now }
         requires asked { MayAsk G.root G.meaning selection }
+        requires given { holes.now ≢ [] → T.takes_holes ≡ true }
         ensures truth { IfOk result (λ truth. truth
             ≡ satisfied G.root G.meaning selection (map (element_of G.root) holes.now) (element_of G.root item)) }
         ensures cost { Spends T.cost self.old.test self.new.test
@@ -132,6 +135,7 @@ impl<'d, 't, 'k, T: HoleTest, G: Ground> Evaluation<'d, 't, 'k, T, G> {
         requires nodes { All (IsElement G.root) nodes.now }
         requires holes { All (IsElement G.root) holes.now }
         requires asked { MayAsk G.root G.meaning selection }
+        requires given { holes.now ≢ [] → T.takes_holes ≡ true }
         ensures truth { IfOk result (λ truth. truth
             ≡ list_any (satisfied G.root G.meaning selection (map (element_of G.root) holes.now)) (map (element_of G.root) nodes.now)) }
         ensures cost { Spends T.cost self.old.test self.new.test

@@ -90,6 +90,10 @@ impl<'j, 't, 'r, 'v, 'm, 'k, J: Judge, B: Loan, M: Ledger> TextTest
 
 impl<'j, 't, 'r, 'v, 'm, 'k, J: Judge, B: Loan, M: Ledger> HoleTest
     for SelectionTest<'j, 't, 'r, 'v, 'm, 'k, J, B, M> {
+    ghost use Rattle.std.specs.Prelude.{true};
+
+    ghost takes_holes = { true };
+
     fn contains_without(
         &mut self,
         selection: usize,

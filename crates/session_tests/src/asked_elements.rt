@@ -55,6 +55,10 @@ impl<'t> TextTest for Judge<'t> {
 }
 
 impl<'t> HoleTest for Judge<'t> {
+    ghost use Rattle.std.specs.Prelude.{true};
+
+    ghost takes_holes = { true };
+
     fn contains_without(
         &mut self,
         selection: usize,

@@ -7,7 +7,7 @@ use Rattle.session_text.specs.declared.reached.Stage.{Stage}
 use Rattle.session_text.specs.declared.reached.Stage.TheVariants as stage
 use Rattle.session_text.specs.steps.PeriodReading.{Place, at_start, commands_from, is_unended}
 use Rattle.session_text.specs.steps.SizedReading.{SizedPlace, sized_commands_from}
-use Rattle.session_text.specs.steps.Reading.{IsFirstLine, IsPlace, IsPlaceAt, Reached, commands_after, commands_at}
+use Rattle.session_text.specs.steps.Reached.{IsFirstLine, IsPlace, IsPlaceAt, Reached, commands_after, commands_at}
 use Rattle.session_text.proofs.FirstLineLemmas.{first_none, period_piece, periods_end, second_ends, second_piece}
 use Rattle.session_text.proofs.PlaceLemmas.{feed_at, unended_prefix}
 use Rattle.session_text.proofs.ReadingLemmas.{commands_from-unended, unended_append}

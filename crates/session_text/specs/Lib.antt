@@ -3,6 +3,7 @@ pub mod LineCommands
 pub mod Lines
 pub mod PeriodBlocks
 pub mod Quoted
+pub mod Reading
 pub mod SizedBlocks
 pub mod Words
 pub mod steps

@@ -1,4 +1,4 @@
 pub mod Blocks
 pub mod PeriodReading
-pub mod Reading
+pub mod Reached
 pub mod SizedReading

@@ -3,7 +3,7 @@ ghost use Rattle.std.specs.List.{list_all};
 ghost use Rattle.std.specs.Option.{option_to_list};
 ghost use Rattle.reply_lines.specs.Given.{block_lengths, is_readable};
 ghost use Rattle.session_text.specs.Commands.{says_second as second_follows};
-ghost use Rattle.session_text.specs.steps.Reading.{IsFirstLine, IsPlace, at_front, bytes_held_back, commands_after};
+ghost use Rattle.session_text.specs.steps.Reached.{IsFirstLine, IsPlace, at_front, bytes_held_back, commands_after};
 
 use crate::line::{is_word, skip_mark};
 use crate::sized::SizedUnfinished;
@@ -34,7 +34,7 @@ pub(crate) struct Reached {
 }
 
 impl Model for Reached {
-    ghost use Rattle.session_text.specs.steps.Reading.{Reached};
+    ghost use Rattle.session_text.specs.steps.Reached.{Reached};
 
     ghost Value = { Reached };
 

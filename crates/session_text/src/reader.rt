@@ -3,7 +3,8 @@ ghost use Rattle.std.specs.Option.{option_to_list};
 ghost use Rattle.std.specs.List.{list_all};
 ghost use Rattle.session_text.specs.Commands.{commands, whole};
 ghost use Rattle.reply_lines.specs.Given.{block_lengths, is_readable};
-ghost use Rattle.session_text.specs.steps.Reading.{bytes_held_back, commands_left, new_reading, whole_left};
+ghost use Rattle.session_text.specs.Reading.{commands_left, new_reading, whole_left};
+ghost use Rattle.session_text.specs.steps.Reached.{bytes_held_back};
 
 use crate::reached::Reached;
 use crate::{Command, Commands};
@@ -22,7 +23,8 @@ pub struct Lines_ {
 
 impl Model for Lines_ {
     ghost use Rattle.std.specs.Prelude.{◌≡◌, ◌<◌, ◌^◌, false};
-    ghost use Rattle.session_text.specs.steps.Reading.{Reading, IsPlace};
+    ghost use Rattle.session_text.specs.Reading.{Reading};
+    ghost use Rattle.session_text.specs.steps.Reached.{IsPlace};
 
     ghost Value = { Reading };
 

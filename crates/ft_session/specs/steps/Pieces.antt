@@ -6,7 +6,7 @@ use Rattle.ft_base.specs.Limits.{max_session_bytes}
 use Rattle.ft_io.specs.Shelf.{Files, bytes_of, known_bytes}
 use Rattle.plan_runs.specs.Judgement.{Judgement}
 use Rattle.reply_lines.specs.declared.command.Command.{Command}
-use Rattle.session_text.specs.steps.Reading.{Reading, commands_left, whole_left}
+use Rattle.session_text.specs.Reading.{Reading, commands_left, whole_left}
 use Rattle.reply_lines.specs.Replies.{is_refusal}
 use Rattle.session_state.specs.State.{State}
 use Rattle.session_state.specs.Step.{replies, state_after}

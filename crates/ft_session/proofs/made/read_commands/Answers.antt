@@ -1,7 +1,7 @@
 -- Without an unfinished line the commands that became whole are all.
 use Rattle.std.proofs.Common.{◌∙◌, sym, ap, append-nil, ◌++◌, []}
 use Rattle.std.specs.Option.{option_to_list}
-use Rattle.session_text.specs.steps.Reading.{commands_left, new_reading}
+use Rattle.session_text.specs.Reading.{commands_left, new_reading}
 use Rattle.ft_session.proofs.made.read_commands.Goals as goal
 
 pub returns-in-Ok-None : goal.returns-in-Ok-None

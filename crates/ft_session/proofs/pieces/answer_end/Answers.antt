@@ -1,7 +1,7 @@
 -- Nothing is written where memory runs out first.
 use Rattle.std.specs.Prelude.{[]}
 use Rattle.std.proofs.lemmas.Result.{err_from_is_err_and}
-use Rattle.session_text.specs.steps.Reading.{commands_left}
+use Rattle.session_text.specs.Reading.{commands_left}
 use Rattle.session_state.specs.Step.{replies}
 use Rattle.ft_session.specs.Output.{texts_of}
 use Rattle.ft_session.proofs.AnswerLemmas.{prefix_nothing}

@@ -1,6 +1,6 @@
 -- The commands that became whole are those that were answered.
 use Rattle.std.proofs.Common.{◌∙◌, sym, ap, ◌++◌}
-use Rattle.session_text.specs.steps.Reading.{commands_left, whole_left}
+use Rattle.session_text.specs.Reading.{commands_left, whole_left}
 use Rattle.ft_session.proofs.ProgressLemmas.{answered, answered_prefix}
 use Rattle.ft_session.proofs.pieces.answer_piece.Goals as goal
 

@@ -4,7 +4,7 @@ use Rattle.std.proofs.lemmas.List.{length-take-le}
 use Rattle.std.specs.Prelude.{Option, IfSome, IsSome, string_bytes}
 use Rattle.ft_base.specs.Limits.{max_session_bytes}
 use Rattle.ft_io.specs.Shelf.{Files, Reads, bytes_of, known_bytes}
-use Rattle.session_text.specs.steps.Reading.{commands_left}
+use Rattle.session_text.specs.Reading.{commands_left}
 use Rattle.session_state.specs.Step.{replies}
 use Rattle.ft_session.specs.Output.{output_of_whole, texts_of}
 use Rattle.ft_session.specs.Run.{TookPrefix, with_text}

@@ -1,5 +1,5 @@
 -- The test may be asked for each selection that the steps name, and what it was lent comes back.
-use Rattle.std.proofs.Common.{rules, ◌≡◌, ℕ, true, cond, ◌<◌, ap, sym, ◌∙◌, length, map, arith, IsTrue}
+use Rattle.std.proofs.Common.{rules, refl, ◌≡◌, ℕ, true, cond, ◌<◌, ap, sym, ◌∙◌, length, map, arith, IsTrue}
 use Rattle.ft_base.specs.declared.ids.NodeRef.{NodeRef}
 use Rattle.path_grammar.specs.Form.{steps}
 use Rattle.path_grammar.specs.View.{step}
@@ -12,6 +12,9 @@ use Rattle.session_state.specs.SelectionTests.{may_ask, span_at, where_cheap}
 use Rattle.session_state.proofs.PathLemmas.{asked-weaker}
 use Rattle.session_state.proofs.SelectionTestLemmas.{as-many, may-asked, moves-loan, runs-loan}
 use Rattle.session_state.proofs.selected.select_with.Goals as goal
+
+pub nodes_without-requires-clause-given : goal.nodes_without-requires-clause-given
+nodes_without-requires-clause-given g c = λ has. refl
 
 pub nodes_without-requires-clause-asked : goal.nodes_without-requires-clause-asked
 nodes_without-requires-clause-asked g c =

@@ -5,6 +5,9 @@ use Rattle.path_nodes.proofs.AskedLemmas.{of-all}
 use Rattle.session_state.proofs.SelectionTestLemmas.{span-known}
 use Rattle.session_tests.proofs.asked_elements.led_by.Goals as goal
 
+pub nodes_without-requires-clause-given : goal.nodes_without-requires-clause-given
+nodes_without-requires-clause-given c = λ has. refl
+
 pub nodes_without-requires-clause-asked : goal.nodes_without-requires-clause-asked
 nodes_without-requires-clause-asked c = of-all _ (λ k r x. (refl, span-known _ r x)) _
 

@@ -28,6 +28,7 @@ use Rattle.path_nodes.proofs.AskingLemmas.{of-predicates}
 use Rattle.path_nodes.proofs.ChosenLemmas.{within-base, led-inside, stepped-inside, parents-inside, of-document, stepped-is}
 use Rattle.path_nodes.proofs.PrefixLemmas.{prefix-itself}
 use Rattle.path_nodes.proofs.FoundLemmas.{one-below, some-of}
+use Rattle.path_nodes.proofs.GivenLemmas.{given-holes}
 use Rattle.path_nodes.proofs.IgnoredLemmas.{led_by, steps_of, all-ignored, inside-more, lead-more, marks-more}
 use Rattle.path_nodes.proofs.KnownLemmas.{is-truth}
 use Rattle.path_nodes.proofs.LeadingLemmas.{in-step, steps-from, predicates-from, conditions-from, paths-from, stand-first, stand-next, stand-itself, stand-inside}
@@ -160,8 +161,10 @@ is_true-some_satisfies-requires g t c κs within =
     let ps = form.paths (map view.relative_path c.in-Contains.ignored) in
     let numbered = rw (c.in-Contains.is, view_contains) at c.requires.numbered in
     let first = stand-first (in_paths ps) (in_steps s) (in_paths ps ++ in_steps s) refl g.G.Ground.conditions c.in_ok-first-in-Contains.first (stand-inside g.G.Ground.conditions c.args.number _ _ _ numbered c.in_ok-first-in-Contains.ensures) in
-    let asked = c.args.self.now.asked c.args.number s c.in-Contains.selection ps (stand-itself g.G.Ground.conditions c.args.number _ _ numbered) in
-    (search (rules, the_lemmas), (within.0, (within.1, (c.requires.item, (c.in_ok-nodes-in-Contains.ensures.elements.there, (asked, first))))))
+    let itself = stand-itself g.G.Ground.conditions c.args.number _ _ numbered in
+    let asked = c.args.self.now.asked c.args.number s c.in-Contains.selection ps itself in
+    let given = c.args.self.now.given c.args.number s c.in-Contains.selection ps itself in
+    (search (rules, the_lemmas), (within.0, (within.1, (c.requires.item, (c.in_ok-nodes-in-Contains.ensures.elements.there, (asked, (given, first)))))))
 
 pub is_true-returns-then-is_of_itself-clause-truth : goal.is_true-returns-then-is_of_itself-clause-truth
 is_true-returns-then-is_of_itself-clause-truth g t c =
@@ -226,6 +229,12 @@ some_satisfies-returns-then-is_empty-clause-truth g t c =
 
 pub some_satisfies-ignored-requires : goal.some_satisfies-ignored-requires
 some_satisfies-ignored-requires g t c κs within = (search (rules, the_lemmas), (within.0, (within.1, (c.requires.item, c.requires.numbered))))
+
+pub some_satisfies-some_contains-requires-clause-given : goal.some_satisfies-some_contains-requires-clause-given
+some_satisfies-some_contains-requires-clause-given g t c =
+    let root = g.G.Ground.root in
+    given-holes g.T.HoleTest.takes_holes root (satisfied root g.G.Ground.meaning) (elements (plain root)) (form.paths (map view.relative_path c.args.paths.now)) (element_of root c.args.item)
+    c.in_ok-holes.holes c.requires.given c.in_ok-holes.ensures.elements.are
 
 pub some_satisfies-returns-clause-truth : goal.some_satisfies-returns-clause-truth
 some_satisfies-returns-clause-truth g t c = rw c.in_ok-holes.ensures.elements.are at c.in_ok-truth.ensures.truth

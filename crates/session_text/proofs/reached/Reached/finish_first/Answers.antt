@@ -4,7 +4,7 @@ use Rattle.std.proofs.lemmas.Result.{IfOk-weaker}
 use Rattle.session_text.specs.Commands.{says_second}
 use Rattle.session_text.specs.Lines.{without_mark}
 use Rattle.session_text.specs.steps.PeriodReading.{commands_from}
-use Rattle.session_text.specs.steps.Reading.{Reached}
+use Rattle.session_text.specs.steps.Reached.{Reached}
 use Rattle.session_text.proofs.ReachedLemmas.{last_period, last_second}
 use Rattle.session_text.proofs.reached.Reached.finish_first.Goals as goal
 

@@ -1,6 +1,6 @@
 -- The commands of what is left stay the same, whole or with the session's end after them.
 use Rattle.std.proofs.Common.{◌∙◌, sym, ap, ◌++◌, true, false}
-use Rattle.session_text.specs.steps.Reading.{Reading, commands_left, whole_left}
+use Rattle.session_text.specs.Reading.{Reading, commands_left, whole_left}
 use Rattle.session_text.proofs.ReachedLemmas.{none_whole}
 use Rattle.session_text.proofs.reader.Lines_.feed.Goals as goal
 

@@ -1,5 +1,5 @@
 -- How far a session was read.
-use Rattle.std.specs.Prelude.{◌≡◌, ◌≤◌, ℕ, ◌+◌, Bool, true, false, List, ◌++◌, length}
+use Rattle.std.specs.Prelude.{◌≡◌, ◌≤◌, ℕ, ◌+◌, Bool, true, List, ◌++◌, length}
 use Rattle.reply_lines.specs.declared.command.Command.{Command}
 use Rattle.session_text.specs.Commands.{commands_of}
 use Rattle.session_text.specs.declared.reached.Stage.{Stage}
@@ -50,20 +50,3 @@ IsPlaceAt stage.SizedBlocks lines sized bytes = IsSizedPlace sized × (sized.num
 -- no line feed stands in the line that hasn't ended, and no more lines ended than there were bytes
 abbrev pub IsPlace : Reached → ℕ → Type 0
 IsPlace reached bytes = IsPlaceAt reached.stage reached.lines reached.sized bytes
-
--- what a reader holds: its place, how many bytes it was fed, and whether memory ran out in it
-pub record Reading : Type 0 where
-  pub place : Reached
-  pub bytes : ℕ
-  pub failed : Bool
-
-abbrev pub new_reading : Reading
-new_reading = record { place = at_front; bytes = 0; failed = false }
-
--- what is left of a session: the commands where these bytes follow and the session ends after them
-abbrev pub commands_left : Reading → List ℕ → List Command
-commands_left reading bytes = commands_after true reading.place bytes
-
--- the commands that are whole where these bytes follow
-abbrev pub whole_left : Reading → List ℕ → List Command
-whole_left reading bytes = commands_after false reading.place bytes
