@@ -1,4 +1,4 @@
-ghost use Rattle.std.specs.Prelude.{◌≡◌, ◌≤◌, ◌+◌, [], ℕ, All, Bool, false, true, IfOk, IsTrue};
+ghost use Rattle.std.specs.Prelude.{◌≡◌, ◌≢◌, ◌≤◌, ◌+◌, [], ℕ, All, Bool, false, true, IfOk, IsTrue};
 ghost use Rattle.path_nodes.specs.Says.{Meaning};
 
 use crate::Nodes;
@@ -44,7 +44,7 @@ pub trait HoleTest: TextTest {
         node: NodeRef,
         holes: &Nodes,
     ) -> Result<bool, Memory>
-        requires given { takes_holes ≡ true }
+        requires given { holes.now ≢ [] → takes_holes ≡ true }
         requires node { IsTrue ((Self.meaning self.old).may_ask selection node) }
         requires holes { All (λ hole. IsTrue ((Self.meaning self.old).may_ask selection hole)) holes.now }
         ensures says { IfOk result (λ is. is ≡ (Self.meaning self.old).says selection holes.now node) }

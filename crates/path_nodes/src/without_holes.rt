@@ -31,10 +31,13 @@ impl<'t, T: TextTest> HoleTest for WithoutHoles<'t, T> {
 
     fn contains_without(
         &mut self,
-        _selection: usize,
-        _node: NodeRef,
-        _holes: &Nodes,
+        selection: usize,
+        node: NodeRef,
+        holes: &Nodes,
     ) -> Result<bool, Memory> {
-        unreachable!()
+        if !holes.is_empty() {
+            unreachable!();
+        }
+        self.test.contains(selection, node)
     }
 }

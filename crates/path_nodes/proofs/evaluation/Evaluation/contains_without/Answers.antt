@@ -1,5 +1,5 @@
 -- The test says it of the element's reference and those of the holes.
-use Rattle.std.proofs.Common.{◌≡◌, IfOk, IsTrue, map, refl, sym, ap, ◌∙◌, subst, true≢false}
+use Rattle.std.proofs.Common.{◌≡◌, IfOk, IsTrue, map, refl, sym, ap, ◌∙◌, subst}
 use Rattle.std.proofs.lemmas.List.Elements.{All-weaker}
 use Rattle.path_nodes.specs.References.{IsElement, element_of}
 use Rattle.path_nodes.specs.Says.{satisfied}
@@ -16,7 +16,7 @@ returns-then-is_empty-clause-truth g c =
     (sym (c.is_empty.ensures.0 c.if-is_empty.true)) c.itself_contains.ensures.truth
 
 pub contains_without-requires-clause-given : goal.contains_without-requires-clause-given
-contains_without-requires-clause-given g c = c.requires.given (λ none. true≢false (sym (c.is_empty.ensures.1 none) ∙ c.if-is_empty.false))
+contains_without-requires-clause-given g c = c.requires.given
 
 pub contains_without-requires-clause-node : goal.contains_without-requires-clause-node
 contains_without-requires-clause-node g c = rw c.args.self.now.meaning ((c.requires.asked c.args.item c.requires.item).0)
