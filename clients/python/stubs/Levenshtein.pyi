@@ -1,0 +1,3 @@
+"""The types of what ftq_ask uses of Levenshtein."""
+
+def distance(a: str, b: str) -> int: ...

@@ -1,0 +1,3 @@
+"""The types of what ftq_ask uses of Whoosh."""
+
+def stopwords_for_language(language: str) -> frozenset[str]: ...
