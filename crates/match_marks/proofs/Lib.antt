@@ -1,5 +1,11 @@
 mod ShowableLemmas
 mod ShownRunViews
+mod HeldChoices
+mod WalkedHits
+mod WindowSearch
+mod TestedHits
+mod WindowWays
+mod WindowOpened
 mod OpeningLemmas
 mod PuttingLemmas
 mod MarksLemmas

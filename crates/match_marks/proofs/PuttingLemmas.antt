@@ -15,13 +15,15 @@ use Rattle.ft_operators.specs.Standing.{includes_now}
 use Rattle.plan_compiler.specs.ShownMeaning.{first_shown}
 use Rattle.plan_runs.specs.OpenedParts.{MayHold, part_says}
 use Rattle.plan_runs.specs.steps.OpenedOperators.{aims_of}
-use Rattle.match_marks.specs.steps.ShownRuns.{Choosing, MayChoose, MayShow, Showing, choice_of, choosing, each_of, first_of, least_of, showing, walk_may}
+use Rattle.match_marks.specs.steps.ShownRuns.{Choosing, MayChoose, MayShow, Showing, choice_of, choosing, each_of, first_of, in_window, least_of, showing, walk_may}
+use Rattle.match_marks.specs.steps.WindowRuns.{all_aims, phrase_may}
 use Rattle.match_marks.specs.declared.shown.FirstRun.{FirstRun}
 use Rattle.match_marks.specs.declared.shown.LeastRun.{LeastRun}
 use Rattle.match_marks.specs.declared.shown.Shown.{Shown}
 use Rattle.match_marks.specs.declared.shown.Shown as S
 use Rattle.match_marks.specs.declared.shown.ShownRun.{ShownRun}
-use Rattle.match_marks.proofs.ShownRunViews.{showing-And, showing-First, showing-Least, showing-Or}
+use Rattle.match_marks.specs.declared.shown.WindowRun.{WindowRun}
+use Rattle.match_marks.proofs.ShownRunViews.{showing-And, showing-First, showing-Least, showing-Or, showing-Window}
 
 -- ---- hits and ways
 
@@ -159,6 +161,9 @@ module _ (node : Shown) where
   pub is-Least : (run : LeastRun) → node ≡ S.Least run → showing node ≡ least_of (aims_of run.tuples)
   is-Least run is = ap showing is ∙ showing-Least run
 
+  pub is-Window : (run : WindowRun) → node ≡ S.Window run → showing node ≡ in_window run.size (all_aims run.phrases.items)
+  is-Window run is = ap showing is ∙ showing-Window run
+
   pub is-And : (parts : Vec Shown Global) → node ≡ S.And parts → showing node ≡ each_of (map showing parts.items)
   is-And parts is = ap showing is ∙ showing-And parts
 
@@ -172,6 +177,9 @@ module _ (node : Shown) where
     pub least_may : (run : LeastRun) → node ≡ S.Least run → walk_may (aims_of run.tuples) doc span ≡ true
     least_may run is = (subst (MayShow doc span) (is-Least run is) may).walks
 
+    pub window_may : (run : WindowRun) → node ≡ S.Window run → list_all (phrase_may doc span) (all_aims run.phrases.items) ≡ true
+    window_may run is = (subst (MayShow doc span) (is-Window run is) may).walks
+
     pub parts_may : (parts : Vec Shown Global) → node ≡ S.And parts → MayShow doc span (each_of (map showing parts.items))
     parts_may parts is = subst (MayShow doc span) (is-And parts is) may
 
@@ -184,6 +192,9 @@ module _ (node : Shown) where
 
   pub same-Least : (run other : LeastRun) → node ≡ S.Least run → aims_of other.tuples ≡ aims_of run.tuples → showing (S.Least other) ≡ showing node
   same-Least run other is aims = showing-Least other ∙ ap least_of aims ∙ sym (is-Least run is)
+
+  pub same-Window : (run other : WindowRun) → node ≡ S.Window run → other.size ≡ run.size → all_aims other.phrases.items ≡ all_aims run.phrases.items → showing (S.Window other) ≡ showing node
+  same-Window run other is size aims = showing-Window other ∙ (λ i. in_window (size i) (aims i)) ∙ sym (is-Window run is)
 
   pub same-And : (parts others : Vec Shown Global) → node ≡ S.And parts → map showing others.items ≡ map showing parts.items → showing (S.And others) ≡ showing node
   same-And parts others is same = showing-And others ∙ ap each_of same ∙ sym (is-And parts is)

@@ -1,1 +1,2 @@
+pub mod WindowRuns
 pub mod ShownRuns

@@ -6,7 +6,9 @@ ghost use Rattle.plan_runs.specs.steps.OpenedOperators.{aims_of};
 ghost use Rattle.match_marks.specs.steps.ShownRuns.{AreShown, AreShownParts, IsShown, IsShownPart, choosing, showing};
 ghost use Rattle.plan_compiler.specs.declared.shown_plan.ShownNode as ShownNode;
 
+use crate::opening_window::open_window;
 use crate::shown::{FirstRun, LeastRun, Shown, ShownRun};
+use crate::window_plan::window_of;
 use ft_base::{Items, Memory};
 use ft_operators::{Chain, Tuples};
 use index_phrases::PhraseCursor;
@@ -78,6 +80,16 @@ fn open_first<'v>(opening: &Opening<'v>, first: &FirstWays) -> Result<Shown<'v>,
 }
 
 fn open_least<'v>(opening: &Opening<'v>, plan: &WaysPlan) -> Result<Shown<'v>, Memory>
+    ensures { IfOk result (λ run. IsShown opening.now.looks opening.now.lists.now.stems opening.now.version.now (showing run) (ShownNode.Least plan.now)) }
+{
+    match window_of(&plan.operator) {
+        Some((size, operand)) => Ok(Shown::Window(open_window(opening, size, operand)?)),
+        None => open_ways(opening, plan),
+    }
+}
+
+/// A walk through the ways.
+fn open_ways<'v>(opening: &Opening<'v>, plan: &WaysPlan) -> Result<Shown<'v>, Memory>
     ensures { IfOk result (λ run. IsShown opening.now.looks opening.now.lists.now.stems opening.now.version.now (showing run) (ShownNode.Least plan.now)) }
 {
     let tuples = open_walk(opening, &plan.operator)?;

@@ -1,6 +1,7 @@
 //! The places of what is shown, put into one list.
 
-ghost use Rattle.std.specs.Prelude.{◌≡◌, ◌≤◌, ◌++◌, [], if◌then◌else◌, map, true, IfOk, OnOk};
+ghost use Rattle.std.specs.Prelude.{◌≡◌, ◌≤◌, ◌++◌, [], ◌∷◌, suc, if◌then◌else◌, map, true, IfOk, OnOk};
+ghost use Rattle.std.specs.List.{list_all};
 ghost use Rattle.best_hits.specs.Best.{spans_of};
 ghost use Rattle.ft_operators.specs.Tuples.{walk_of};
 ghost use Rattle.ft_operators.specs.Standing.{includes_now};
@@ -8,9 +9,11 @@ ghost use Rattle.ft_operators.specs.Walk.{tuple_of};
 ghost use Rattle.index_phrases.specs.Cursors.{state_of};
 ghost use Rattle.plan_runs.specs.OpenedParts.{part_says};
 ghost use Rattle.plan_runs.specs.steps.OpenedOperators.{aims_of};
-ghost use Rattle.match_marks.specs.steps.ShownRuns.{MayChoose, MayShow, choice_of, choosing, each_of, first_of, least_of, showing, walk_may};
+ghost use Rattle.match_marks.specs.steps.ShownRuns.{MayChoose, MayShow, choice_of, choosing, each_of, first_of, in_window, least_of, showing, walk_may};
+ghost use Rattle.match_marks.specs.steps.WindowRuns.{all_aims, phrase_may};
 
-use crate::shown::{FirstRun, LeastRun, Shown, ShownRun};
+use crate::shown::{FirstRun, LeastRun, Shown, ShownRun, WindowRun};
+use crate::window::least_joined;
 use ft_base::{DocId, Hit, Memory, Span, Steps};
 use ft_operators::Tuples;
 use index_phrases::PhraseCursor;
@@ -36,6 +39,7 @@ pub(crate) fn put_shown<'v, L: Ledger>(
         Shown::And(parts) => put_each(parts, doc, span, spans, steps),
         Shown::Nothing => Ok(()),
         Shown::Least(run) => put_least(run, doc, span, spans, steps),
+        Shown::Window(run) => put_window(run, doc, span, spans, steps),
     }
 }
 
@@ -154,16 +158,43 @@ fn put_least<'v, L: Ledger>(
     put_hits(&run.least, spans)
 }
 
+fn put_window<'v, L: Ledger>(
+    run: &mut WindowRun<'v>,
+    doc: DocId,
+    span: Span,
+    spans: &mut Vec<Span>,
+    steps: &mut Steps<L>,
+) -> Result<(), Memory>
+    requires { list_all (phrase_may doc.0 span) (all_aims run.old.phrases.items) ≡ true }
+    ensures spans { OnOk result (spans.new.items ≡ spans.old.items ++ (in_window run.old.size (all_aims run.old.phrases.items)).spans doc.0 span) }
+    ensures size { run.new.size ≡ run.old.size }
+    ensures same { all_aims run.new.phrases.items ≡ all_aims run.old.phrases.items }
+    ensures grown { steps.old ≤ steps.new }
+{
+    match least_joined(&mut run.phrases, run.size, doc, span, steps) {
+        Some(joined) => put_places(joined.from, joined.to, spans),
+        None => Ok(()),
+    }
+}
+
 /// Puts the places of hits. Those of a document end below the greatest number of 32 bits; for a hit there, behind which nothing can be
 /// told, no memory is found.
 fn put_hits(hits: &[Hit], spans: &mut Vec<Span>) -> Result<(), Memory>
     ensures { OnOk result (spans.new.items ≡ spans.old.items ++ spans_of hits.now) }
 {
     for hit in hits {
-        let Some(to) = hit.to.checked_add(1) else {
-            return Err(Memory);
-        };
-        spans.push(Span { from: hit.from, to })?;
+        put_places(hit.from, hit.to, spans)?;
     }
+    Ok(())
+}
+
+/// Puts the places from the first word to the last one.
+fn put_places(from: u32, last: u32, spans: &mut Vec<Span>) -> Result<(), Memory>
+    ensures { OnOk result (spans.new.items ≡ spans.old.items ++ record { from = from; to = suc last } ∷ []) }
+{
+    let Some(to) = last.checked_add(1) else {
+        return Err(Memory);
+    };
+    spans.push(Span { from, to })?;
     Ok(())
 }

@@ -1,6 +1,6 @@
 //! Selections that are compiled to be shown, opened over a version of the index.
 
-ghost use Rattle.std.specs.Prelude.{◌≡◌, ◌≤◌, []};
+ghost use Rattle.std.specs.Prelude.{◌≡◌, ◌<◌, ◌≤◌, []};
 ghost use Rattle.ft_operators.specs.Chains.{links_of, spare_filters, spare_hits};
 ghost use Rattle.ft_operators.specs.Tuples.{room_of};
 
@@ -22,6 +22,8 @@ pub(crate) enum Shown<'v> {
     Nothing,
     /// A selection with filters or `not in`: the least includes of its clean ways.
     Least(LeastRun<'v>),
+    /// A window in words round phrases: the joined hit of the least way.
+    Window(WindowRun<'v>),
 }
 
 /// A part of a choice.
@@ -48,4 +50,12 @@ pub(crate) struct LeastRun<'v> {
     ghost none: { links_of chain ≡ [] },
     ghost filters: { (room_of tuples).filters ≤ spare_filters chain },
     ghost hits: { (room_of tuples).hits ≤ spare_hits chain },
+}
+
+/// The phrases in a window of so many words, one at least. No hit of a phrase begins or ends before an earlier one.
+#[derive(Drop)]
+pub(crate) struct WindowRun<'v> {
+    pub(crate) phrases: Vec<Tuples<PhraseCursor<'v>>>,
+    pub(crate) size: u32,
+    ghost some: { 0 < size },
 }

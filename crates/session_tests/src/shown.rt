@@ -4,7 +4,7 @@ use ft_session::Status;
 use std::test::Fail;
 
 // What is marked: the hits of the Match by which an element is shown.
-const SHOWN: [Row; 7] = [
+const SHOWN: [Row; 9] = [
     // the words of a Match: of a filter its includes, of words the first hit of each
     (
         r#"session 2
@@ -152,6 +152,103 @@ doc("x")/a[1]
 = 1
 doc("x")/a[1]
 storm [over] the old [harbour] [storm]
+"#,
+        Status::Done,
+    ),
+    // of phrases in a window in words too: the one that begins first, and of those that begin there the one that ends first
+    (
+        r#"session 2
+load 34 x
+<a>a x b b a y b c a b c x a b</a>
+show collection()/a[. contains text ("a" ftand "b") window 2 words]
+show collection()/a[. contains text ("a" ftand "b") window 3 words]
+show collection()/a[. contains text ("a" ftand "b") window 40 words]
+show collection()/a[. contains text ("b" ftand "b a") window 3 words]
+show collection()/a[. contains text ("a" ftand "a") window 1 words]
+show collection()/a[. contains text ("b c" ftand "a" ftand "b") window 3 words]
+show collection()/a[. contains text ("b c" ftand "c a" ftand "y") window 5 words]
+show collection()/a[. contains text ("b c" ftand "c a" ftand "y") window 4 words]
+show collection()/a[. contains text ("x a" ftand "b c") window 5 words]
+show collection()/a[. contains text "c b x" all words window 4 words]
+show collection()/a[. contains text "b b a" window 3 words]
+show collection()/a[. contains text "b b a" window 2 words]
+"#,
+        r#"ok
+= 1
+doc("x")/a[1]
+a x b [b] [a] y b c a b c x a b
+= 1
+doc("x")/a[1]
+[a] [x] [b] b a y b c a b c x a b
+= 1
+doc("x")/a[1]
+[a] [x] [b] b a y b c a b c x a b
+= 1
+doc("x")/a[1]
+a x [b] [b] [a] y b c a b c x a b
+= 1
+doc("x")/a[1]
+[a] x b b a y b c a b c x a b
+= 1
+doc("x")/a[1]
+a x b b a y [b] [c] [a] b c x a b
+= 1
+doc("x")/a[1]
+a x b b a [y] [b] [c] [a] b c x a b
+= 1
+doc("x")/a[1]
+a x b b a [y] [b] [c] [a] b c x a b
+= 1
+doc("x")/a[1]
+a x b b a y b c a [b] [c] [x] [a] b
+= 1
+doc("x")/a[1]
+a x b b a y b c a [b] [c] [x] a b
+= 1
+doc("x")/a[1]
+a x [b] [b] [a] y b c a b c x a b
+= 0
+"#,
+        Status::Done,
+    ),
+    // where a phrase has hits of several lengths, with `ftor`, `ftnot`, sentences, and filters in one another
+    (
+        r#"session 2
+load 42 x
+<a>old sea dog. A dog, a sea. Old salt</a>
+thesaurus 21 t
+r | dog | old sea dog
+show collection()/a[. contains text ("dog" using thesaurus at "t" ftand "sea") window 3 words]
+show collection()/a[. contains text ("dog" using thesaurus at "t" ftand "sea") window 2 words]
+show collection()/a[. contains text (("whale" ftor "dog") ftand "sea") window 2 words]
+show collection()/a[. contains text ("sea" ftand ftnot "dog") window 3 words]
+show collection()/a[. contains text ("dog" ftand "sea") window 1 sentences]
+show collection()/a[. contains text ((("dog" ftand "a") window 2 words) ftand "sea") window 4 words]
+show collection()/a[. contains text ("dog" ftand "sea" ordered) window 3 words]
+"#,
+        r#"ok
+ok
+= 1
+doc("x")/a[1]
+[old] [sea] [dog] A dog a sea Old salt
+= 1
+doc("x")/a[1]
+old [sea] [dog] A dog a sea Old salt
+= 1
+doc("x")/a[1]
+old [sea] [dog] A dog a sea Old salt
+= 1
+doc("x")/a[1]
+old [sea] dog A dog a sea Old salt
+= 1
+doc("x")/a[1]
+old [sea] [dog] A dog a sea Old salt
+= 1
+doc("x")/a[1]
+old [sea] [dog] [A] dog a sea Old salt
+= 1
+doc("x")/a[1]
+old sea dog A [dog] [a] [sea] Old salt
 "#,
         Status::Done,
     ),

@@ -1,6 +1,7 @@
 -- What an opened selection shows at a span of a document, and where it may be aimed.
-use Rattle.std.specs.Prelude.{◌≡◌, ℕ, suc, Bool, true, ◌&&◌, List, [], ◌∷◌, filter, flat_map, map, take}
+use Rattle.std.specs.Prelude.{◌≡◌, ℕ, suc, Bool, true, ◌&&◌, List, [], ◌∷◌, ◌++◌, filter, flat_map, map, take}
 use Rattle.std.specs.List.{All, list_all, sum_by}
+use Rattle.ft_base.specs.declared.hit.Hit.{Hit}
 use Rattle.ft_base.specs.declared.span.Span.{Span}
 use Rattle.all_matches.specs.Chain.{kept_by}
 use Rattle.all_matches.specs.Ways.{Way, clean_under, is_plain, way_includes, ways_of}
@@ -10,9 +11,10 @@ use Rattle.ft_operators.specs.Standing.{Aims}
 use Rattle.ft_operators.specs.Walk.{own_span}
 use Rattle.index_meaning.specs.Documents.{Numbered}
 use Rattle.word_lists.specs.Stems.{Stem}
-use Rattle.plan_compiler.specs.Operators.{looked_text}
+use Rattle.plan_compiler.specs.Operators.{LookedText, hits_by_tests, looked_text}
 use Rattle.plan_compiler.specs.ShownMeaning.{first_shown, shown_part, shown_spans}
 use Rattle.plan_compiler.specs.declared.looks.Looks.{Looks}
+use Rattle.plan_compiler.specs.declared.operator_plan.PhraseTests.{PhraseTests}
 use Rattle.plan_compiler.specs.declared.shown_plan.ShownNode.{ShownNode}
 use Rattle.plan_compiler.specs.declared.shown_plan.ShownPart.{ShownPart}
 use Rattle.plan_runs.specs.OpenedParts.{MayHold, Part, part_of, part_says}
@@ -20,6 +22,7 @@ use Rattle.plan_runs.specs.RunMeaning.{RunMeaning}
 use Rattle.plan_runs.specs.steps.AskedSpans.{AskedSpan, IsAsked, tokens_in}
 use Rattle.plan_runs.specs.steps.OpenedOperators.{aims_of}
 use Rattle.match_marks.specs.MarksMeaning.{best_places}
+use Rattle.match_marks.specs.steps.WindowRuns.{all_aims, hits_there, least_held, phrase_may}
 use Rattle.match_marks.specs.declared.shown.FirstRun.{FirstRun}
 use Rattle.match_marks.specs.declared.shown.LeastRun.{LeastRun}
 use Rattle.match_marks.specs.declared.shown.Shown.{Shown, fold-Shown}
@@ -64,6 +67,14 @@ least_of aims = record {
   weight = 0;
 }
 
+abbrev pub in_window : ℕ → List Aims → Showing
+in_window size phrases = record {
+  may = λ doc span. list_all (phrase_may doc span) phrases;
+  spans = λ doc span. spans_of (least_held size (map (hits_there doc span) phrases));
+  parts = [];
+  weight = 0;
+}
+
 abbrev pub choice_of : List Choosing → Showing
 choice_of parts = record {
   may = λ doc span. list_all (λ part. part.may doc span) parts;
@@ -90,6 +101,7 @@ shown_layer (Shown-F.Or parts) = choice_of parts.items
 shown_layer (Shown-F.And parts) = each_of parts.items
 shown_layer Shown-F.Nothing = nothing_shown
 shown_layer (Shown-F.Least run) = least_of (aims_of run.tuples)
+shown_layer (Shown-F.Window run) = in_window run.size (all_aims run.phrases.items)
 
 abbrev pub part_layer : ShownRun-F Showing Choosing → Choosing
 part_layer run = record {
@@ -122,6 +134,10 @@ pub record MayChoose (doc : ℕ) (span : Span) (part : Choosing) : Type 0 where
   pub walks : part.may doc span ≡ true
   pub parts : All (MayHold doc span) part.parts
 
+-- the hits of a phrase in a text
+abbrev pub tested_hits : LookedText → PhraseTests → List Hit
+tested_hits text found = hits_by_tests text found.number found.variants
+
 module _ (looks : Looks) (stems : List Stem) (version : List Numbered) where
   -- it may be aimed at each span of the version's documents, and shows there what is shown of the tokens
   pub record IsShown (run : Showing) (node : ShownNode) : Type 0 where
@@ -146,6 +162,16 @@ module _ (looks : Looks) (stems : List Stem) (version : List Numbered) where
     pub shown : (asked : AskedSpan) → IsAsked version asked
         → map (λ run. (part_says run.own asked.doc asked.span, run.spans asked.doc asked.span)) runs
         ≡ map (shown_part (looked_text looks stems (tokens_in version asked))) parts
+
+  -- walks that may be gone through at each of them, each of which is there what the phrase is over the tokens
+  pub record AreWalks (walks : List Aims) (phrases : List PhraseTests) : Type 0 where
+    pub may : (asked : AskedSpan) → IsAsked version asked → list_all (phrase_may asked.doc asked.span) walks ≡ true
+    pub hits : (asked : AskedSpan) → IsAsked version asked
+        → map (hits_there asked.doc asked.span) walks ≡ map (tested_hits (looked_text looks stems (tokens_in version asked))) phrases
+
+  -- walks with those of some phrases put after others, where the plan of the phrases joins nothing else
+  pub record PutAfter (old new : List Aims) (joins : Bool) (phrases : List PhraseTests) : Type 0 where
+    pub walks : (before : List PhraseTests) → joins ≡ true → AreWalks old before → AreWalks new (before ++ phrases)
 
 -- of a run's selection: it shows at each span the places of the best hits in the tokens
 pub record ShowsBest (run : RunMeaning) (shown : Showing) : Type 0 where

@@ -1,18 +1,21 @@
 -- Each kind is put by its parts, which stay what they are.
 use Rattle.std.proofs.Common.{◌≡◌, ◌<◌, ◌+◌, ◌++◌, ◌∙◌, refl, ap, sym, subst, map, length, rules, arith, Global}
 use Rattle.std.specs.declared.vec.Vec.{Vec}
+use Rattle.std.specs.List.{list_all}
 use Rattle.std.proofs.lemmas.List.{append-nil}
 use Rattle.std.proofs.lemmas.Result.{on_ok_weaker}
 use Rattle.ft_base.specs.declared.span.Span.{Span}
 use Rattle.index_phrases.proofs.PartLemmas.{as_many, part_at, parts_kept}
 use Rattle.plan_runs.specs.steps.OpenedOperators.{aims_of}
-use Rattle.match_marks.specs.steps.ShownRuns.{Choosing, MayShow, Showing, choice_of, choosing, each_of, first_of, least_of, showing, walk_may}
+use Rattle.match_marks.specs.steps.ShownRuns.{Choosing, MayShow, Showing, choice_of, choosing, each_of, first_of, in_window, least_of, showing, walk_may}
+use Rattle.match_marks.specs.steps.WindowRuns.{all_aims, phrase_may}
 use Rattle.match_marks.specs.declared.shown.FirstRun.{FirstRun}
 use Rattle.match_marks.specs.declared.shown.LeastRun.{LeastRun}
 use Rattle.match_marks.specs.declared.shown.Shown.{Shown, the_lemmas}
 use Rattle.match_marks.specs.declared.shown.Shown as S
 use Rattle.match_marks.specs.declared.shown.ShownRun.{ShownRun}
-use Rattle.match_marks.proofs.PuttingLemmas.{choice_ended, choice_left, choice_may, choice_may_at, choice_passed, choice_taken, each_end, each_may_at, each_more, first_may, is-And, is-First, is-Least, is-Or, least_may, parts_may, same-And, same-First, same-Least, same-Or, weight_at}
+use Rattle.match_marks.specs.declared.shown.WindowRun.{WindowRun}
+use Rattle.match_marks.proofs.PuttingLemmas.{choice_ended, choice_left, choice_may, choice_may_at, choice_passed, choice_taken, each_end, each_may_at, each_more, first_may, is-And, is-First, is-Least, is-Or, is-Window, least_may, parts_may, same-And, same-First, same-Least, same-Or, same-Window, weight_at, window_may}
 use Rattle.match_marks.proofs.ShownRunViews.{showing-Nothing}
 use Rattle.match_marks.proofs.putting.+put.Goals as goal
 
@@ -200,3 +203,20 @@ put_shown-returns-in-Least-clause-spans g t c =
 pub put_shown-returns-in-Least-clause-same : goal.put_shown-returns-in-Least-clause-same
 put_shown-returns-in-Least-clause-same g t c =
     let same = same-Least (S.Least c.in-Least.run') c.in-Least.run' c.put_least.new.run refl (c.put_least.ensures.same ∙ ap (λ (run : LeastRun). aims_of run.tuples) c.in-Least.run-is) in rw c.in-Least.is (search (rules, the_lemmas, same))
+
+pub put_shown-put_window-requires : goal.put_shown-put_window-requires
+put_shown-put_window-requires g t c =
+    ap (λ (run : WindowRun). list_all (phrase_may c.args.doc.0 c.args.span) (all_aims run.phrases.items)) c.in-Window.run-is
+    ∙ window_may c.args.shown.now c.args.doc.0 c.args.span c.requires c.in-Window.run' c.in-Window.is
+
+pub put_shown-returns-in-Window-clause-spans : goal.put_shown-returns-in-Window-clause-spans
+put_shown-returns-in-Window-clause-spans g t c =
+    on_ok_weaker c.put_window.result (λ put.
+    put
+    ∙ ap (λ (run : WindowRun). c.args.spans.now.items ++ (in_window run.size (all_aims run.phrases.items)).spans c.args.doc.0 c.args.span) c.in-Window.run-is
+    ∙ ap (λ (s : Showing). c.args.spans.now.items ++ s.spans c.args.doc.0 c.args.span) (sym (is-Window c.args.shown.now c.in-Window.run' c.in-Window.is))) c.put_window.ensures.spans
+
+pub put_shown-returns-in-Window-clause-same : goal.put_shown-returns-in-Window-clause-same
+put_shown-returns-in-Window-clause-same g t c =
+    let same = same-Window (S.Window c.in-Window.run') c.in-Window.run' c.put_window.new.run refl (c.put_window.ensures.size ∙ ap (λ (run : WindowRun). run.size) c.in-Window.run-is)
+    (c.put_window.ensures.same ∙ ap (λ (run : WindowRun). all_aims run.phrases.items) c.in-Window.run-is) in rw c.in-Window.is (search (rules, the_lemmas, same))
