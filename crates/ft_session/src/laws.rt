@@ -25,7 +25,9 @@ pub fn query_law()
         (λ (d : Named). map (element_line d.name d.root)
         (selected_in says (state_before says session number).abbreviations (state_before says session number).lists p d.root))
         (documents p.path.root (state_before says session number).documents))) }
-{}
+{
+    session_state::laws::query_law();
+}
 
 /// Where it is `show`, and the best hits of the path's last selection can be shown, the reply of that number shows those elements, each by its name
 /// and its words, of which those are marked that the best hits cover.
@@ -38,4 +40,6 @@ pub fn show_law()
         (marked_lines (state_before says session number).abbreviations (state_before says session number).lists form d.name d.root)
         (selected_in says (state_before says session number).abbreviations (state_before says session number).lists p d.root))
         (documents p.path.root (state_before says session number).documents))) }
-{}
+{
+    session_state::laws::show_law();
+}

@@ -1,4 +1,4 @@
--- What is left of the span of a node in the index is what is left of the node's tokens.
+-- Which places are left out of the span of a node in the index, and which of its words are left.
 use Rattle.std.proofs.Common.{◌≡◌, ◌∙◌, sym, ap, refl, subst, ℕ, suc, ◌+◌, ◌-◌, ◌≤◌, ◌==◌, Bool, true, false, true≢false, ◌||◌, cond, List, [], ◌∷◌, ◌++◌, length, map, Some, append_assoc, append-nil, get_or, arith, IsTrue}
 use Rattle.std.specs.Cmp.Lexicographic.{pointwise}
 use Rattle.std.specs.Prelude.{nat_eq, nat_lt}
@@ -9,30 +9,23 @@ use Rattle.std.proofs.lemmas.List.Elements.{All-append, All-cons, All-contains, 
 use Rattle.ft_base.specs.declared.ids.NodeRef.{NodeRef}
 use Rattle.ft_base.specs.declared.span.Span.{Span}
 use Rattle.ft_base.specs.declared.token.Token.{Token}
-use Rattle.ignore_view.specs.Holes.{holes_in, tokens_without}
-use Rattle.ignore_view.specs.Without.{counted, is_left_out, kept_from, without}
-use Rattle.ignore_view.proofs.CountedLemmas.{kept-same, words-counted}
-use Rattle.ignore_view.proofs.HoleLemmas.{moved}
+use Rattle.ignore_view.specs.Holes.{holes_in}
+use Rattle.ignore_view.specs.Without.{is_left_out, kept_from, without}
 use Rattle.index_cursors.specs.SpanHits.{is_inside}
 use Rattle.index_meaning.specs.Documents as indexed
-use Rattle.index_meaning.specs.Documents.{Document, document_ids, has_document}
-use Rattle.index_phrases.specs.Tokens.{span_tokens}
+use Rattle.index_meaning.specs.Documents.{document_ids, has_document}
 use Rattle.ordered_tree.specs.Counts.{word_count}
 use Rattle.ordered_tree.specs.Numbered.{Numbered, element_at, text_at, Children, no_children, child_then, first_of, plain, plain_children}
-use Rattle.ordered_tree.specs.Stands.{OnNode, round_first, round_next, round_root, span}
+use Rattle.ordered_tree.specs.Stands.{round_first, round_next, round_root, span}
 use Rattle.ordered_tree.specs.declared.around.Around.{Around}
-use Rattle.ordered_tree.proofs.ShiftLemmas.{length-words_in}
-use Rattle.path_meaning.specs.Elements.{child_at, node_at}
+use Rattle.path_meaning.specs.Elements.{Element, child_at, node_at}
 use Rattle.path_nodes.specs.References.{Spot, spots, child_spots, spots_in, spot_element, element_of}
-use Rattle.path_nodes.proofs.SpotLemmas.{spot-stand}
 use Rattle.plan_runs.specs.Judgement.{HaveWordsOf}
 use Rattle.plan_runs.specs.RunMeaning.{RunMeaning}
-use Rattle.tokenizer.proofs.PartsLemmas.{words-tokens}
-use Rattle.tokenizer.specs.Tokens.{tokens}
-use Rattle.session_state.specs.IgnoredText.{child_words_before, ignored_places, places_after, tokens_left, words_before}
+use Rattle.session_state.specs.IgnoredText.{child_words_before, ignored_places, places_after, words_before}
 use Rattle.session_state.specs.SelectionTests.{is_there, may_ask, span_at}
 use Rattle.session_state.proofs.IgnoredLemmas.{common-places}
-use Rattle.session_state.proofs.SelectionTestLemmas.{Node, node-there}
+use Rattle.session_state.proofs.SelectionTestLemmas.{node-there}
 
 -- ---- the words before a node are those before its place
 
@@ -111,25 +104,19 @@ all-left-out root e (r ∷ refs) place among there least most =
 
 -- ---- what is left of the node's span
 
-words-many : (abbreviations : List (List ℕ)) (n : Numbered) → length (tokens abbreviations (plain n)) ≡ word_count (plain n)
-words-many abbreviations n =
-    sym (length-map (tokens abbreviations (plain n)) (λ (token : Token). token.word)) ∙ (ap length (words-tokens abbreviations (plain n)) ∙ length-words_in (plain n))
-
-pub left-of-span : (abbreviations : List (List ℕ)) (root : Numbered) (r : NodeRef) (refs : List NodeRef) (n : Node root r) (document : Document) (at : Span)
-    → at ≡ span n.spot.stand → span_tokens at document ≡ tokens abbreviations (plain n.spot.stand.node) → AreThere root refs
-    → tokens_without at (map (span_at root) refs) document ≡ tokens_left abbreviations (map (element_of root) refs) (element_of root r)
-left-of-span abbreviations root r refs n document at at_is same there =
+-- in the numbers of the span, as in those of the document, the same places are left out
+pub left-out-same : (root : Numbered) (r : NodeRef) (refs : List NodeRef) (place : ℕ) → is_there root r ≡ true → AreThere root refs
+    → is_left_out (holes_in (span_at root r) (map (span_at root) refs)) place ≡ is_left_out (map (span_at root) refs) (place + ((span_at root r).from - 1))
+    → 1 ≤ place → place ≤ word_count (element_of root r).node
+    → is_left_out (holes_in (span_at root r) (map (span_at root) refs)) place ≡ is_left_out (map (ignored_places (element_of root r)) (map (element_of root) refs)) place
+left-out-same root r refs place there all moved least most =
+    let n = node-there root r there in
     let e = n.spot in
-    let ts = tokens abbreviations (plain e.stand.node) in
-    let many = words-many abbreviations e.stand.node in
-    let holes = map (span_at root) refs in
-    let kept : kept_from (holes_in at holes) 1 ts ≡ kept_from (map (ignored_places (spot_element e)) (map (element_of root) refs)) 1 ts =
-    kept-same (holes_in at holes) (map (ignored_places (spot_element e)) (map (element_of root) refs)) 1 ts
-    (λ place least most. moved at holes place
-    ∙ (ap (λ (s : Span). is_left_out holes (place + (s.from - 1))) at_is
-    ∙ all-left-out root e refs place n.among there least (omega (arith, most, many)))) in
-    ap (λ xs. without xs (holes_in at holes)) same
-    ∙ (ap counted kept ∙ ap (λ x. tokens_left abbreviations (map (element_of root) refs) x) (sym n.is))
+    let same = ap (λ (x : Element). word_count x.node) n.is in
+    moved
+    ∙ (ap (λ (s : Span). is_left_out (map (span_at root) refs) (place + (s.from - 1))) n.at
+    ∙ (all-left-out root e refs place n.among all least (omega (arith, most, same))
+    ∙ ap (λ x. is_left_out (map (ignored_places x) (map (element_of root) refs)) place) (sym n.is)))
 
 -- ---- the words of what is left are words of the text
 
@@ -150,17 +137,12 @@ kept-words holes place (t ∷ ts) = by (kept-words holes (place + 1) ts) (is_lef
         All-cons (Contains (map word_of (t ∷ ts))) t.word (map word_of (kept_from holes (place + 1) ts)) (0, omega arith, refl)
         (λ k d less. contains-more (map word_of ts) t.word (get_or (map word_of (kept_from holes (place + 1) ts)) k d) (rest k d less))
 
-pub left-words : (ts : List Token) (holes : List Span) → HaveWordsOf (without ts holes) ts
-left-words ts holes = λ k d less.
+pub left-words : (ts : List Token) (holes : List Span) → map word_of (without ts holes) ≡ map word_of (kept_from holes 1 ts) → HaveWordsOf (without ts holes) ts
+left-words ts holes same = λ k d less.
     let left = without ts holes in
     let many = length-map left word_of in
-    let each : All (Contains (map word_of ts)) (map word_of left) = subst (All (Contains (map word_of ts))) (sym (words-counted (kept_from holes 1 ts))) (kept-words holes 1 ts) in
+    let each : All (Contains (map word_of ts)) (map word_of left) = subst (All (Contains (map word_of ts))) (sym same) (kept-words holes 1 ts) in
     subst (Contains (map word_of ts)) (get_or-map word_of left k d [] less) (each k [] (omega (arith, less, many)))
-
--- ---- the span of a node
-
-pub span-is : (root : Numbered) (r : NodeRef) → is_there root r ≡ true → (found : Span) → OnNode root r (λ s. found ≡ span s) → found ≡ span_at root r
-span-is root r h found on = let n = node-there root r h in on n.spot.stand (spot-stand root n.spot n.among) n.refers ∙ sym n.at
 
 -- ---- the document of the view
 

@@ -29,8 +29,8 @@ use Rattle.path_nodes.specs.Prices.{total_price}
 use Rattle.path_nodes.specs.References.{element_of}
 use Rattle.path_subset.specs.Paths.{PathForm, PlacedForm, read_form}
 use Rattle.path_subset.specs.declared.path.Extent.{Extent}
-use Rattle.plan_compiler.specs.Missing.{first_missing, names, IsMissing}
-use Rattle.plan_compiler.proofs.MissingLemmas.{missing_append}
+use Rattle.plan_compiler.specs.Missing as missing
+use Rattle.plan_compiler.specs.Missing.{first_missing, missing_among, names, IsMissing}
 use Rattle.plan_runs.specs.Judgement.{Judgement}
 use Rattle.plan_compiler.specs.Lexicon.{lexicon}
 use Rattle.plan_compiler.specs.NamedLists.{NamedLists}
@@ -111,10 +111,12 @@ mutual
 
 -- a selection among others, and the lists that it names
 module _ (forms : List Form) (k : ℕ) (form : Form) (within : k < length forms) (is : form ≡ get_or forms k form) where
-  pub missing-more : (lists : NamedLists) → missing_list lists (drop k forms) ≡ option_or (first_missing lists form) (missing_list lists (drop (k + 1) forms))
-  missing-more lists =
+  pub missing-more : (lists : NamedLists)
+      → ((all others : List missing.Named) → missing_among lists (all ++ others) ≡ option_or (missing_among lists all) (missing_among lists others))
+      → missing_list lists (drop k forms) ≡ option_or (first_missing lists form) (missing_list lists (drop (k + 1) forms))
+  missing-more lists among =
       at_drop_more (missing_list lists) forms k form within
-      ∙ (ap (λ f. missing_list lists (f ∷ drop (k + 1) forms)) (sym is) ∙ missing_append lists (names form) (flat_map names (drop (k + 1) forms)))
+      ∙ (ap (λ f. missing_list lists (f ∷ drop (k + 1) forms)) (sym is) ∙ among (names form) (flat_map names (drop (k + 1) forms)))
 
 -- the plan of one selection more
 module _ (lists : NamedLists) (text : List ℕ) (all : List PlacedForm) (k : ℕ) (form : Form) (extent : Extent) (within : k < length all)

@@ -4,41 +4,33 @@ use Rattle.std.specs.Prelude.{nat_lt}
 use Rattle.std.specs.List.{list_any, slice_range, Contains}
 use Rattle.std.proofs.lemmas.List.{drop-map, length-map, take-map}
 use Rattle.std.proofs.lemmas.Bool.Decides.{nat_tests}
-use Rattle.std.proofs.lemmas.List.Elements.{All-contains}
 use Rattle.std.proofs.lemmas.Bool.{and_parts, ltb-true}
 use Rattle.ft_base.specs.declared.span.Span.{Span}
 use Rattle.ft_base.specs.declared.token.Token.{Token}
 use Rattle.index_meaning.specs.Documents as indexed
-use Rattle.index_meaning.specs.Documents.{document_at, token_count, words_of}
+use Rattle.index_meaning.specs.Documents.{Document, document_at, token_count, words_of}
 use Rattle.index_phrases.specs.Phrases.{words_at}
 use Rattle.index_phrases.specs.Tokens.{IsSpan, span_tokens}
 use Rattle.index_updates.specs.Follows.{Follows}
-use Rattle.index_updates.proofs.WordsLemmas.{count-tree, words-tree}
-use Rattle.ordered_tree.specs.Counts.{word_count}
 use Rattle.ordered_tree.specs.Numbered.{Numbered, plain}
 use Rattle.ordered_tree.specs.Part.{counted_from, part, renumbered}
-use Rattle.ordered_tree.specs.Stands.{OnNode, Stand, references, span, stands_in}
+use Rattle.ordered_tree.specs.Stands.{span}
 use Rattle.ft_base.specs.declared.ids.NodeRef.{NodeRef}
-use Rattle.ordered_tree.proofs.LawsLemmas.{one-node}
-use Rattle.ordered_tree.proofs.ShiftLemmas.{shift, stands-few}
 use Rattle.path_meaning.specs.Elements.{Element, placed}
 use Rattle.path_nodes.specs.References.{Spot, spots_in, spot_element, spot_reference, found_in, element_of, IsElement}
 use Rattle.path_nodes.specs.Says.{Meaning}
-use Rattle.path_nodes.proofs.SpotLemmas.{spot-stand, spot-there}
 use Rattle.plan_compiler.specs.CheapSelections.{is_cheap}
 use Rattle.plan_compiler.specs.Lexicon.{lexicon}
 use Rattle.plan_runs.specs.Judgement.{Judgement}
 use Rattle.plan_runs.specs.RunMeaning.{RunMeaning}
 use Rattle.plan_runs.specs.RunPrice.{price_at}
 use Rattle.kept_plans.specs.PlanOf.{PlanOf}
-use Rattle.tokenizer.proofs.PartsLemmas.{words-tokens}
 use Rattle.tokenizer.specs.Tokens.{tokens}
 use Rattle.session_state.specs.IgnoredText.{tokens_left}
 use Rattle.session_state.specs.PathPrices.{are_cheap, element_price, words_of as element_words}
 use Rattle.session_state.specs.PlannedPaths.{is_meant, meant, run_meant, run_over, run_price}
 use Rattle.session_state.specs.SelectionTests.{asked_of, is_there, may_ask, span_among, span_at, where_cheap, AreOver, AreOverEach}
 use Rattle.document_store.specs.Indexed.{FollowsEach}
-use Rattle.session_state.proofs.TextLemmas.{nothing-ignored, tokens-at-span}
 
 -- the node that a reference names
 pub record Node (root : Numbered) (r : NodeRef) : Type 0 where
@@ -90,14 +82,11 @@ node-there root r h =
     record { spot = n.spot; among = n.among; refers = n.refers; is = n.is; at = n.at }
 
 -- what runs may be asked for is a node
-pub asked-node : (runs : List RunMeaning) (root : Numbered) (k : ℕ) (r : NodeRef) → IsTrue (may_ask runs root k r) → Node root r
-asked-node runs root k r h = node-there root r (and_parts (nat_lt k (length runs)) (is_there root r) h).1
+pub asked-there : (runs : List RunMeaning) (root : Numbered) (k : ℕ) (r : NodeRef) → IsTrue (may_ask runs root k r) → is_there root r ≡ true
+asked-there runs root k r h = (and_parts (nat_lt k (length runs)) (is_there root r) h).1
 
 pub asked-run : (runs : List RunMeaning) (root : Numbered) (k : ℕ) (r : NodeRef) → IsTrue (may_ask runs root k r) → k < length runs
 asked-run runs root k r h = ltb-true k (length runs) (and_parts (nat_lt k (length runs)) (is_there root r) h).0
-
-pub reference-there : (root : Numbered) (r : NodeRef) → Node root r → Contains (references root) r
-reference-there root r n = subst (Contains (references root)) n.refers (spot-there root n.spot n.among)
 
 -- each element of a document may be asked for
 there : (xs : List Spot) (r : NodeRef) (k : ℕ) (s : Spot) → k < length xs → get_or xs k s ≡ s → spot_reference s ≡ r → list_any (λ s. (spot_reference s).0 == r.0) xs ≡ true
@@ -113,17 +102,10 @@ there (x ∷ xs) r (suc k) s more is refers =
 pub element-there : (root : Numbered) (r : NodeRef) → IsElement root r → is_there root r ≡ true
 element-there root r e = there (spots_in root) r e.among.0 e.spot e.among.1 e.among.2 e.refers
 
--- and its words stand where the span says
-pub span-known : (root : Numbered) (r : NodeRef) → IsElement root r → OnNode root r (λ s. span_at root r ≡ span s)
-span-known root r e s among refers =
-    let n = node-there root r (element-there root r e) in
-    n.at ∙ ap span (one-node root e.apart n.spot.stand s (spot-stand root n.spot n.among) among (n.refers ∙ sym refers))
-
-pub may-asked : (runs : List RunMeaning) (root : Numbered) (k : ℕ) → k < length runs → (r : NodeRef) → IsElement root r
-    → IsTrue (may_ask runs root k r) × OnNode root r (λ s. span_at root r ≡ span s)
+pub may-asked : (runs : List RunMeaning) (root : Numbered) (k : ℕ) → k < length runs → (r : NodeRef) → IsElement root r → IsTrue (may_ask runs root k r)
 may-asked runs root k less r e =
     let named : nat_lt k (length runs) ≡ true = grind (arith, nat_tests, less) in
-    (ap (λ b. b && is_there root r) named ∙ element-there root r e, span-known root r e)
+    ap (λ b. b && is_there root r) named ∙ element-there root r e
 
 -- there are as many runs as plans
 pub as-many : (plans : List PlanOf) (runs : List RunMeaning) → map run_meant runs ≡ map meant plans → length plans ≡ length runs
@@ -139,9 +121,9 @@ met-left says abbreviations (r ∷ runs) zero run ignored e more is = ap (λ q. 
 met-left says abbreviations (r ∷ runs) (suc k) run ignored e more is = met-left says abbreviations runs k run ignored e (omega (arith, more)) is
 
 pub met-at : (says : Judgement) (abbreviations : List (List ℕ)) (runs : List RunMeaning) (k : ℕ) (run : RunMeaning) (e : Element) → k < length runs → get_or runs k run ≡ run
-    → is_meant says abbreviations (map run_meant runs) k [] e ≡ says run.form run.lists (tokens abbreviations e.node)
-met-at says abbreviations runs k run e more is =
-    met-left says abbreviations runs k run [] e more is ∙ ap (says run.form run.lists) (nothing-ignored abbreviations e)
+    → tokens_left abbreviations [] e ≡ tokens abbreviations e.node → is_meant says abbreviations (map run_meant runs) k [] e ≡ says run.form run.lists (tokens abbreviations e.node)
+met-at says abbreviations runs k run e more is all =
+    met-left says abbreviations runs k run [] e more is ∙ ap (says run.form run.lists) all
 
 pub priced-at : (runs : List RunMeaning) (k : ℕ) (run : RunMeaning) (e : Element) → k < length runs → get_or runs k run ≡ run
     → element_price (map run_price runs) k e ≡ run_price run (element_words e)
@@ -187,40 +169,25 @@ words-renumbered (first ∷ rest) = words-counted first (first ∷ rest)
 words-range : (ts : List Token) (a b : ℕ) → map (λ token. token.word) (slice_range ts a b) ≡ slice_range (map (λ token. token.word) ts) a b
 words-range ts a b = sym (take-map (λ (token : Token). token.word) (b - a) (drop a ts)) ∙ ap (take (b - a)) (sym (drop-map (λ (token : Token). token.word) a ts))
 
-module _ (abbreviations : List (List ℕ)) (version : List indexed.Numbered) (doc : ℕ) (root : Numbered) (follows : Follows abbreviations version doc root) where
-  -- the words of the document are those of the tree's tokens
-  words-there : words_of (document_at doc version) ≡ map (λ token. token.word) (tokens abbreviations (plain root))
-  words-there = ap words_of follows.document ∙ (words-tree abbreviations root ∙ sym (words-tokens abbreviations (plain root)))
-
-  pub words-at-span : (at : Span) (ts : List Token) → part (tokens abbreviations (plain root)) at ≡ ts → map (λ token. token.word) ts ≡ words_at at (document_at doc version)
-  words-at-span at ts is =
-      ap (map (λ token. token.word)) (sym is)
-      ∙ (words-renumbered (slice_range (tokens abbreviations (plain root)) (at.from - 1) (at.to - 1))
-      ∙ (words-range (tokens abbreviations (plain root)) (at.from - 1) (at.to - 1)
-      ∙ ap (λ ws. slice_range ws (at.from - 1) (at.to - 1)) (sym words-there)))
-
-  -- and the span is inside it
-  pub span-inside : (s : Stand) → Contains (stands_in root) s → (span s).to ≤ token_count (document_at doc version) + 1
-  span-inside s among =
-      let below = All-contains (λ s. s.around.before + word_count (plain s.node) ≤ word_count (plain root)) (stands_in root) s (stands-few root) among in
-      let count : token_count (document_at doc version) ≡ word_count (plain root) = ap token_count follows.document ∙ count-tree abbreviations root in
-      omega (arith, below, count)
-
-  pub span-there : (s : Stand) → Contains (stands_in root) s → IsSpan (span s) (document_at doc version)
-  span-there s among = record { first = omega arith; order = omega arith; last = span-inside s among }
+-- the words of a part of a document's tokens are those at its span
+pub words-of-part : (document : Document) (all ts : List Token) (at : Span) → map (λ token. token.word) all ≡ words_of document → part all at ≡ ts
+    → words_at at document ≡ map (λ token. token.word) ts
+words-of-part document all ts at words is =
+    ap (λ ws. slice_range ws (at.from - 1) (at.to - 1)) (sym words)
+    ∙ (sym (words-range all (at.from - 1) (at.to - 1))
+    ∙ (sym (words-renumbered (slice_range all (at.from - 1) (at.to - 1)))
+    ∙ ap (map (λ token. token.word)) is))
 
 -- ---- what is said of the tokens at each span is said of each node
 
 -- what is spent within the price of a run is spent within that of the node
-pub spent-within : (abbreviations : List (List ℕ)) (runs : List RunMeaning) (k : ℕ) (run : RunMeaning) (doc : ℕ) (root : Numbered) (r : NodeRef) (n : Node root r) (at : Span) (old new : ℕ)
-    → k < length runs → get_or runs k run ≡ run → Follows abbreviations run.version doc root → part (tokens abbreviations (plain root)) at ≡ tokens abbreviations (plain n.spot.stand.node)
+pub spent-within : (runs : List RunMeaning) (k : ℕ) (run : RunMeaning) (doc : ℕ) (root : Numbered) (r : NodeRef) (at : Span) (old new : ℕ)
+    → k < length runs → get_or runs k run ≡ run → words_at at (document_at doc run.version) ≡ element_words (element_of root r)
     → (is_cheap (lexicon run.lists) run.form ≡ true → new ≤ old + price_at run doc at)
     → where_cheap runs new ≤ where_cheap runs old + where_cheap runs (element_price (map run_price runs) k (element_of root r))
-spent-within abbreviations runs k run doc root r n at old new less is follows there paid =
-    let words = words-at-span abbreviations run.version doc root follows at (tokens abbreviations (plain n.spot.stand.node)) there in
+spent-within runs k run doc root r at old new less is words paid =
     let price : price_at run doc at ≡ element_price (map run_price runs) k (element_of root r) =
-    ap (run_price run) (sym words ∙ words-tokens abbreviations (plain n.spot.stand.node))
-    ∙ (ap (λ (e : Element). run_price run (element_words e)) (sym n.is) ∙ sym (priced-at runs k run (element_of root r) less is)) in
+    ap (run_price run) words ∙ sym (priced-at runs k run (element_of root r) less is) in
     let own = element_price (map run_price runs) k (element_of root r) in
     elim (are_cheap (map run_meant runs)) as (λ b. are_cheap (map run_meant runs) ≡ b → cond b new 0 ≤ cond b old 0 + cond b own 0) [
       | true ↦ λ h. subst (λ n. new ≤ old + n) price (paid (cheap-at runs k run h less is))
@@ -228,23 +195,17 @@ spent-within abbreviations runs k run doc root r n at old new less is follows th
     ] refl
 
 pub skipped : (says : Judgement) (abbreviations : List (List ℕ)) (runs : List RunMeaning) (root : Numbered) (k : ℕ) (run : RunMeaning) (doc from to : ℕ) → get_or runs k run ≡ run
-    → AreOver abbreviations runs (doc, root)
+    → ((r : NodeRef) → is_there root r ≡ true → IsSpan (span_at root r) (document_at doc run.version)
+    × (span_tokens (span_at root r) (document_at doc run.version) ≡ tokens abbreviations (element_of root r).node))
+    → ((e : Element) → tokens_left abbreviations [] e ≡ tokens abbreviations e.node)
     → ((at : Span) → (1 ≤ at.from) × (at.from ≤ at.to) × (at.to ≤ token_count (document_at doc run.version) + 1)
     → from ≤ at.from → at.to ≤ to → says run.form run.lists (span_tokens at (document_at doc run.version)) ≡ false)
     → (r : NodeRef) → IsTrue (may_ask runs root k r) → from ≤ (span_at root r).from → (span_at root r).to ≤ to
     → is_meant says abbreviations (map run_meant runs) k [] (element_of root r) ≡ false
-skipped says abbreviations runs root k run doc from to is over none r asked suffix ahead =
-    let n = asked-node runs root k r asked in
-    let among = spot-stand root n.spot n.among in
-    let less = asked-run runs root k r asked in
-    let follows = over-at abbreviations runs k run (doc, root) less is over in
-    let ts = tokens abbreviations (plain n.spot.stand.node) in
-    let here = All-contains (λ t. part (tokens abbreviations (plain root)) (span t) ≡ tokens abbreviations (plain t.node)) (stands_in root) n.spot.stand (shift abbreviations root) among in
-    let below = span-inside abbreviations run.version doc root follows n.spot.stand among in
-    let same = tokens-at-span abbreviations run.version doc root (span n.spot.stand) ts follows (span-there abbreviations run.version doc root follows n.spot.stand among) here in
-    met-at says abbreviations runs k run (element_of root r) less is
-    ∙ (ap (λ (e : Element). says run.form run.lists (tokens abbreviations e.node)) n.is
-    ∙ (ap (says run.form run.lists) (sym same) ∙ none (span n.spot.stand) (omega arith, omega arith, below) (subst (λ (s : Span). from ≤ s.from) n.at suffix) (subst (λ (s : Span). s.to ≤ to) n.at ahead)))
+skipped says abbreviations runs root k run doc from to is at_span all none r asked suffix ahead =
+    let here = at_span r (asked-there runs root k r asked) in
+    met-at says abbreviations runs k run (element_of root r) (asked-run runs root k r asked) is (all (element_of root r))
+    ∙ (ap (says run.form run.lists) (sym here.1) ∙ none (span_at root r) (here.0.first, here.0.order, here.0.last) suffix ahead)
 
 -- ---- runs of plans over one version
 

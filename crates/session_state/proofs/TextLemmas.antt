@@ -1,30 +1,25 @@
 -- The document that follows a tree under abbreviations has the tree's tokens under them as its text, and at the span of a node the node's own tokens.
-use Rattle.std.proofs.Common.{◌≡◌, ◌∙◌, sym, ap, refl, subst, ℕ, zero, suc, ◌+◌, ◌-◌, ◌<◌, ◌≤◌, ◌==◌, Bool, true, false, ◌&&◌, if◌then◌else◌, List, [], ◌∷◌, ◌++◌, length, map, get_or, zero-add, arith}
+use Rattle.std.proofs.Common.{◌≡◌, ◌∙◌, sym, ap, refl, subst, ℕ, zero, suc, ◌+◌, ◌-◌, ◌<◌, ◌≤◌, ◌==◌, Bool, true, false, ◌&&◌, if◌then◌else◌, List, [], ◌∷◌, ◌++◌, cond, length, map, zero-add, arith}
 use Rattle.std.specs.Prelude.{⊤, nat_le}
-use Rattle.std.specs.List.{All}
+use Rattle.std.specs.List.{All, slice_get}
+use Rattle.std.specs.Option.{option_map_or}
 use Rattle.std.proofs.lemmas.Bool.{and_from, cond-false, cond-true, eq-eqb, le-leb, lt-leb, or_left, or_right}
 use Rattle.std.proofs.lemmas.Bool.Decides.{nat_tests}
-use Rattle.std.proofs.lemmas.List.Elements.{All-cons, All-drop, All-nil, All-take}
+use Rattle.std.proofs.lemmas.List.Elements.{All-cons, All-drop, All-head, All-nil, All-take}
+use Rattle.std.proofs.lemmas.List.Recursion.{is_count_by}
 use Rattle.ft_base.specs.declared.span.Span.{Span}
 use Rattle.ft_base.specs.declared.token.Token.{Token}
 use Rattle.all_matches.specs.Hits.{paragraph_at, sentence_at}
 use Rattle.all_matches.specs.Spans as spans
 use Rattle.all_matches.specs.Spans.{in_span}
-use Rattle.ignore_view.specs.Without.{are_counted, are_counted_after, counted, follows_on}
-use Rattle.ignore_view.proofs.CountedLemmas.{kept-none, same-counted}
+use Rattle.ignore_view.specs.Without.{are_counted, are_counted_after, follows_on}
 use Rattle.index_cursors.specs.SpanHits.{started}
-use Rattle.index_cursors.proofs.AscendingLemmas.{passing, passing-count}
-use Rattle.index_meaning.specs.Documents as indexed
-use Rattle.index_meaning.specs.Documents.{Document, document_at}
-use Rattle.index_phrases.specs.Tokens.{IsSpan, IsText, span_tokens}
-use Rattle.index_phrases.proofs.SpanTokens.{no_token, paragraph_read, part_paragraph, part_sentence, sentence_read, tokens_of_text}
-use Rattle.index_updates.specs.Follows.{Follows, tree_document}
-use Rattle.index_updates.proofs.WordsLemmas.{words-tree}
+use Rattle.index_meaning.specs.Documents.{Document, words_of}
+use Rattle.index_phrases.specs.Tokens.{IsText, span_tokens}
+use Rattle.index_updates.specs.Follows.{tree_document}
 use Rattle.ordered_tree.specs.Numbered.{Numbered, plain}
 use Rattle.ordered_tree.specs.Part.{counted_from, part, renumbered}
-use Rattle.path_meaning.specs.Elements.{Element}
-use Rattle.session_state.specs.IgnoredText.{tokens_left}
-use Rattle.tokenizer.proofs.PartsLemmas.{words-tokens}
+use Rattle.plain_tree.specs.Document.{Node}
 use Rattle.tokenizer.specs.Gaps.{gap, ends_paragraph, ends_sentence}
 use Rattle.tokenizer.specs.Parts.{Part, word, gap_characters, gap_tag, parts}
 use Rattle.tokenizer.specs.Tokens.{paragraph_starts, shifted, sentence_starts, starts, tokens, tokens_from}
@@ -36,11 +31,13 @@ abbrev Rises : (Token → ℕ) → ℕ → List Token → Type 0
 Rises number before [] = ⊤
 Rises number before (token ∷ rest) = (before ≤ number token) × (number token ≤ before + 1) × Rises number (number token) rest
 
+-- how many places are at most this one
 abbrev up_to : ℕ → List ℕ → ℕ
-up_to place xs = passing (λ start. nat_le start place) xs
+up_to place [] = 0
+up_to place (start ∷ starts) = cond (nat_le start place) (1 + up_to place starts) (up_to place starts)
 
 all-up_to : (place : ℕ) (xs : List ℕ) → 0 + up_to place xs ≡ started xs place
-all-up_to place xs = zero-add (up_to place xs) ∙ passing-count (λ start. nat_le start place) xs
+all-up_to place xs = zero-add (up_to place xs) ∙ is_count_by (up_to place) (λ start. nat_le start place) refl (λ x xs. refl) xs
 
 module _ (number : Token → ℕ) where
   none-up_to : (last before place : ℕ) (ts : List Token) → last < place → up_to last (starts number before place ts) ≡ 0
@@ -56,7 +53,7 @@ module _ (number : Token → ℕ) where
           cond-false (nat_le place last) (1 + suffix) suffix (lt-leb place last h) ∙ rest
 
   number-up_to : (before place : ℕ) (ts : List Token) (i : ℕ) → Rises number before ts → i < length ts
-      → number (get_or ts i no_token) ≡ before + up_to (place + i) (starts number before place ts)
+      → option_map_or number (slice_get ts i) 0 ≡ before + up_to (place + i) (starts number before place ts)
   unfolding starts
   number-up_to before place [] i rises h = absurd (omega (arith, h))
   number-up_to before place (t ∷ ts) zero rises h =
@@ -78,8 +75,8 @@ module _ (number : Token → ℕ) where
       (number-up_to (number t) (place + 1) ts i rises.2 (omega (arith, h)) ∙ ap (λ p. number t + up_to p (starts number (number t) (place + 1) ts)) at)
     where
       by : (same : Bool) → (number t == before) ≡ same
-          → number (get_or ts i no_token) ≡ number t + up_to (place + suc i) (starts number (number t) (place + 1) ts)
-          → number (get_or ts i no_token) ≡ before + up_to (place + suc i) ((if same then [] else place ∷ []) ++ starts number (number t) (place + 1) ts)
+          → option_map_or number (slice_get ts i) 0 ≡ number t + up_to (place + suc i) (starts number (number t) (place + 1) ts)
+          → option_map_or number (slice_get ts i) 0 ≡ before + up_to (place + suc i) ((if same then [] else place ∷ []) ++ starts number (number t) (place + 1) ts)
       by true e rest = grind (arith, nat_tests, e, rest)
       by false e rest =
           let least = rises.0 in
@@ -132,28 +129,23 @@ are-counted (gap_tag name ∷ xs) s p hs hp = are-counted xs s p hs hp
 
 -- ---- the text of a tree
 
-pub text-of-tree : (abbreviations : List (List ℕ)) (root : Numbered) → IsText (tree_document abbreviations root) (tokens abbreviations (plain root))
+pub text-of-tree : (abbreviations : List (List ℕ)) (root : Numbered) → map (λ token. token.word) (tokens abbreviations (plain root)) ≡ words_of (tree_document abbreviations root)
+    → IsText (tree_document abbreviations root) (tokens abbreviations (plain root))
 unfolding tree_document tokens
-text-of-tree abbreviations root = record {
-  words = words-tokens abbreviations (plain root) ∙ sym (words-tree abbreviations root);
+text-of-tree abbreviations root same = record {
+  words = same;
   sentences = λ place first last.
       let i = place - 1 in
-      let at : place ≡ suc i = omega (arith, first) in
       let next : 1 + i ≡ place = omega (arith, first) in
       let there : i < length (tokens abbreviations (plain root)) = omega (arith, first, last) in
-      ap (λ p. sentence_at (tokens abbreviations (plain root)) p) at
-      ∙ sentence_read (tokens abbreviations (plain root)) i there
-      ∙ number-up_to (λ token. token.sentence) 0 1 (tokens abbreviations (plain root)) i (sentences-rise (parts abbreviations (plain root)) 1 1 0 (omega arith) (omega arith)) there
+      number-up_to (λ token. token.sentence) 0 1 (tokens abbreviations (plain root)) i (sentences-rise (parts abbreviations (plain root)) 1 1 0 (omega arith) (omega arith)) there
       ∙ all-up_to (1 + i) (sentence_starts (tokens abbreviations (plain root)))
       ∙ ap (started (sentence_starts (tokens abbreviations (plain root)))) next;
   paragraphs = λ place first last.
       let i = place - 1 in
-      let at : place ≡ suc i = omega (arith, first) in
       let next : 1 + i ≡ place = omega (arith, first) in
       let there : i < length (tokens abbreviations (plain root)) = omega (arith, first, last) in
-      ap (λ p. paragraph_at (tokens abbreviations (plain root)) p) at
-      ∙ paragraph_read (tokens abbreviations (plain root)) i there
-      ∙ number-up_to (λ token. token.paragraph) 0 1 (tokens abbreviations (plain root)) i (paragraphs-rise (parts abbreviations (plain root)) 1 1 0 (omega arith) (omega arith)) there
+      number-up_to (λ token. token.paragraph) 0 1 (tokens abbreviations (plain root)) i (paragraphs-rise (parts abbreviations (plain root)) 1 1 0 (omega arith) (omega arith)) there
       ∙ all-up_to (1 + i) (paragraph_starts (tokens abbreviations (plain root)))
       ∙ ap (started (paragraph_starts (tokens abbreviations (plain root)))) next;
 }
@@ -170,7 +162,7 @@ module _ (f g : ℕ → ℕ) (first : Token) where
 from-first : (n first start : ℕ) → first ≡ start → 1 ≤ first → n - (start - 1) ≡ n + 1 - first
 from-first n first start same least = omega (arith, same, least)
 
-module _ (abbreviations : List (List ℕ)) (root : Numbered) (at : Span) (inside : IsSpan at (tree_document abbreviations root)) where
+module _ (abbreviations : List (List ℕ)) (root : Numbered) (at : Span) where
   abbrev document : Document
   document = tree_document abbreviations root
 
@@ -191,31 +183,28 @@ module _ (abbreviations : List (List ℕ)) (root : Numbered) (at : Span) (inside
   part-counted =
       All-take IsCounted (at.to - 1 - (at.from - 1)) _ (All-drop IsCounted (at.from - 1) all (are-counted (parts abbreviations (plain root)) 1 1 (omega arith) (omega arith)))
 
-  own-part : (ts : List Token) → in_span at all ≡ ts → own ts ≡ renumbered ts
-  own-part [] is = refl
-  own-part (first ∷ rest) is =
+  -- the tokens in the document's numbers are those of the part in its own, by the numbers of the first one
+  own-part : (ts : List Token) → in_span at all ≡ ts
+      → (0 < length (in_span at all) → sentence_at (in_span at all) 1 ≡ started document.sentences (at.from + 0))
+      → (0 < length (in_span at all) → paragraph_at (in_span at all) 1 ≡ started document.paragraphs (at.from + 0)) → own ts ≡ renumbered ts
+  own-part [] is sentences paragraphs = refl
+  own-part (first ∷ rest) is sentences paragraphs =
       let size : length (in_span at all) ≡ suc (length rest) = ap length is in
       let there : 0 < length (in_span at all) = omega (arith, size) in
       let prefix : at.from + 0 ≡ at.from = omega arith in
-      let head : get_or (in_span at all) 0 no_token ≡ first = ap (λ ts. get_or ts 0 no_token) is in
-      let least = subst IsCounted head (part-counted 0 no_token there) in
-      let sentence : first.sentence ≡ started document.sentences at.from =
-      ap (λ (t : Token). t.sentence) (sym head) ∙ part_sentence document all at (text-of-tree abbreviations root) inside 0 there ∙ ap (started document.sentences) prefix in
-      let paragraph : first.paragraph ≡ started document.paragraphs at.from =
-      ap (λ (t : Token). t.paragraph) (sym head) ∙ part_paragraph document all at (text-of-tree abbreviations root) inside 0 there ∙ ap (started document.paragraphs) prefix in
+      let least = All-head IsCounted first rest (subst (All IsCounted) is part-counted) in
+      let sentence : first.sentence ≡ started document.sentences at.from = ap (λ ts. sentence_at ts 1) (sym is) ∙ (sentences there ∙ ap (started document.sentences) prefix) in
+      let paragraph : first.paragraph ≡ started document.paragraphs at.from = ap (λ ts. paragraph_at ts 1) (sym is) ∙ (paragraphs there ∙ ap (started document.paragraphs) prefix) in
       counted-each own_sentence own_paragraph first (first ∷ rest)
       (λ n. from-first n first.sentence (started document.sentences at.from) sentence least.sentence)
       (λ n. from-first n first.paragraph (started document.paragraphs at.from) paragraph least.paragraph)
 
-  tokens-of-span : span_tokens at document ≡ part all at
-  tokens-of-span = tokens_of_text document all at (text-of-tree abbreviations root) inside ∙ own-part (in_span at all) refl
+  pub tokens-of-span : span_tokens at document ≡ own (in_span at all)
+      → (0 < length (in_span at all) → sentence_at (in_span at all) 1 ≡ started document.sentences (at.from + 0))
+      → (0 < length (in_span at all) → paragraph_at (in_span at all) 1 ≡ started document.paragraphs (at.from + 0)) → span_tokens at document ≡ part all at
+  tokens-of-span told sentences paragraphs = told ∙ own-part (in_span at all) refl sentences paragraphs
 
-pub tokens-at-span : (abbreviations : List (List ℕ)) (version : List indexed.Numbered) (doc : ℕ) (root : Numbered) (at : Span) (ts : List Token)
-    → Follows abbreviations version doc root → IsSpan at (document_at doc version) → part (tokens abbreviations (plain root)) at ≡ ts → span_tokens at (document_at doc version) ≡ ts
-tokens-at-span abbreviations version doc root at ts follows inside is =
-    ap (span_tokens at) follows.document ∙ tokens-of-span abbreviations root at (subst (IsSpan at) follows.document inside) ∙ is
-
--- ---- where nothing is ignored, all tokens are left
+-- ---- the tokens of a node are counted from 1, each one from the one before it
 
 follows-shifted : (ended : Bool) (n : ℕ) → follows_on n (shifted ended n) ≡ true
 follows-shifted true n = or_right (n + 1 == n) (n + 1 == n + 1) (eq-eqb (n + 1) (n + 1) refl)
@@ -239,7 +228,6 @@ are-counted-from (word bytes ∷ xs) =
 are-counted-from (gap_characters bytes ∷ xs) = are-counted-from xs
 are-counted-from (gap_tag name ∷ xs) = are-counted-from xs
 
-pub nothing-ignored : (abbreviations : List (List ℕ)) (e : Element) → tokens_left abbreviations [] e ≡ tokens abbreviations e.node
+pub tokens-counted : (abbreviations : List (List ℕ)) (n : Node) → are_counted (tokens abbreviations n) ≡ true
 unfolding tokens
-nothing-ignored abbreviations e =
-    ap counted (kept-none 1 (tokens abbreviations e.node)) ∙ same-counted (tokens abbreviations e.node) (are-counted-from (parts abbreviations e.node))
+tokens-counted abbreviations n = are-counted-from (parts abbreviations n)

@@ -4,6 +4,7 @@ ghost use Rattle.std.specs.Prelude.{◌≡◌, ◌≤◌, ℕ, List};
 ghost use Rattle.plan_runs.specs.RunMeaning.{RunMeaning};
 ghost use Rattle.session_state.specs.SelectionTests.{AreOver, IsKept};
 
+use crate::node_laws::{left_law, node_law, span_law};
 use crate::text_left::{LeftView, judge_left, left_without};
 use ft_base::{DocId, Memory, Steps};
 use ordered_tree::{DocTree, NodeRef};
@@ -73,6 +74,9 @@ impl<'j, 't, 'r, 'v, 'm, 'k, J: Judge, B: Loan, M: Ledger> TextTest
     ghost cost = { λ test. where_cheap B.runs test.moves.now };
 
     fn contains(&mut self, selection: usize, node: NodeRef) -> Result<bool, Memory> {
+        node_law();
+        span_law();
+        left_law();
         let span = self.tree.span_of(node);
         let runs = &mut *self.runs;
         let run = &mut runs[selection];
@@ -80,6 +84,8 @@ impl<'j, 't, 'r, 'v, 'm, 'k, J: Judge, B: Loan, M: Ledger> TextTest
     }
 
     fn skip_to(&self, selection: usize, from: u32) -> u32 {
+        span_law();
+        left_law();
         let runs = &*self.runs;
         if selection >= runs.len() {
             return 0;
@@ -103,6 +109,9 @@ impl<'j, 't, 'r, 'v, 'm, 'k, J: Judge, B: Loan, M: Ledger> HoleTest
         if holes.is_empty() {
             return self.contains(selection, node);
         }
+        node_law();
+        span_law();
+        left_law();
         let part = self.tree.span_of(node);
         let runs = &mut *self.runs;
         let run = &mut runs[selection];

@@ -12,6 +12,7 @@ pub mod laws;
 mod lists;
 mod marked_words;
 mod marks;
+pub mod node_laws;
 mod paths;
 mod planned;
 mod refusing;

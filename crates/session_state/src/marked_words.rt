@@ -19,6 +19,7 @@ ghost use Rattle.session_state.specs.steps.MarkedPlans.{in_turn, marked_through,
 
 use crate::asked_runs::Abbreviated;
 use crate::keeping::keep_accepted;
+use crate::node_laws::{node_law, span_law};
 use crate::paths::{Ready, ready_path};
 use crate::planned::{PlannedPath, open_runs};
 use crate::selected::select;
@@ -36,7 +37,6 @@ use std::alloc::Global;
 use std::marker::Brand;
 use std::sync::ledger::Ledger;
 use text_list::TextList;
-use tokenizer::words_law;
 
 /// The reply to the path of `show`, by the documents and the lists that are there, and by what the judge says. Where it isn't refused, the
 /// plans of its selections are kept. `moves` counts the steps of the cursors by which the judge is asked; those by which marks are found have
@@ -333,7 +333,8 @@ fn push_line<'v, A: Abbreviated>(
     ensures lines { OnOk result (lines.new ≡ lines.old ++ words_line A.abbreviations marks.old.lists marks.old.form tree.now.root node ∷ []) }
     ensures marks { marks.new ≡ marks.old }
 {
-    words_law();
+    node_law();
+    span_law();
     let Room { words, marking } = room;
     let span = tree.span_of(node);
     words.clear();

@@ -14,7 +14,7 @@ use index_versions::Version;
 use kept_plans::{KeptPlan, Prepared};
 use path_grammar::{PathRoot, Steps};
 use path_subset::{Extent, ReadPath};
-use plan_compiler::CompileFault;
+use plan_compiler::{CompileFault, missing_law};
 use plan_runs::Run;
 use std::alloc::Global;
 
@@ -40,6 +40,7 @@ pub(crate) fn plan_selections(
     ensures there { IfOk result (λ _. missing_list prepared.now.lists (selections_of (read_form path.now)) ≡ None) }
     ensures missing { IfErr result (λ fault. IsMissing fault (missing_list prepared.now.lists (selections_of (read_form path.now)))) }
 {
+    missing_law();
     let mut plans = Vec::new(alloc);
     for number in 0..path.selection_count() {
         let extent = path.selection_extent(number);

@@ -11,6 +11,7 @@ ghost use Rattle.session_state.specs.SelectionTests.{AreOver, AreOverEach};
 ghost use Rattle.document_store.specs.Loaded.{to_document, trees_of};
 
 use crate::asked_runs::{Abbreviated, Loan, SelectionTest, look_up};
+use crate::node_laws::node_law;
 use crate::planned::PlannedPath;
 use crate::shown::Shown;
 use document_store::{Documents, Loaded};
@@ -215,6 +216,7 @@ fn select_with<J: Judge, B: Loan, M: Ledger>(
     ensures price { has_cheap_plans path.now ≡ true
         → moves.new ≤ moves.old + planned_price J.says B.abbreviations path.now runs.old (plain document.now.tree.root) }
 {
+    node_law();
     // The root is an element, as the clauses of `root` say.
     let tree = document.tree();
     let _root = tree.root();

@@ -8,6 +8,7 @@ ghost use Rattle.index_updates.specs.Follows.{Follows};
 ghost use Rattle.session_state.specs.SelectionTests.{is_there, span_at, IsKept, IsLeft};
 
 use crate::asked_runs::Loan;
+use crate::node_laws::{left_law, node_law, span_law};
 use ft_base::{DocId, Memory, Span, Steps};
 use ignore_view::{Holes, view_without};
 use index_versions::Version;
@@ -52,6 +53,9 @@ pub(crate) fn left_without<B: Loan, L: Ledger>(
     if let Some(left) = kept_left(kept, node, holes) {
         return Ok(left);
     }
+    node_law();
+    span_law();
+    left_law();
     let part = tree.span_of(node);
     let spans = spans_of(alloc, tree, holes)?;
     let holes = Nodes::from_slice(alloc, holes.as_slice())?;
@@ -96,6 +100,7 @@ fn spans_of(alloc: Global, tree: &DocTree, nodes: &Nodes) -> Result<Holes, Memor
     requires { All (λ node. is_there tree.now.root node ≡ true) nodes.now }
     ensures { IfOk result (λ spans. spans ≡ map (span_at tree.now.root) nodes.now) }
 {
+    node_law();
     let mut spans = Holes::new(alloc);
     for node in nodes.as_slice() {
         spans.push(tree.span_of(*node))?;

@@ -9,6 +9,7 @@ use ft_base::Memory;
 use ordered_tree::{DocTree, NodeRef, load_doc};
 use path_nodes::{HoleTest, Nodes, TextTest, nodes, nodes_without};
 use path_subset::{ReadPath, read_path};
+use session_state::node_laws::node_law;
 use std::alloc::Global;
 use std::process::Abort;
 use std::test::Fail;
@@ -100,6 +101,7 @@ fn led_by(alloc: Global, path: &ReadPath, test: &mut Judge<'_>) -> Result<Vec<No
     requires { is_element test.old.tree.now.root ≡ true }
     ensures { IfOk result (λ found. All (IsElement test.old.tree.now.root) found.items) }
 {
+    node_law();
     let tree = test.tree;
     let steps = path.steps();
     if path.has_without() {

@@ -29,7 +29,7 @@ loop-number-preserved c =
           ∙ planned-more lists text all number selection extent within c.selection.ensures c.selection_extent-extent.ensures
           c.loop-number.plans.items c.in-Ok.plan so_far.plans one;
       missing = so_far.missing
-          ∙ (missing-more forms number selection as_many c.selection.ensures lists
+          ∙ (missing-more forms number selection as_many c.selection.ensures lists (c.missing_law.ensures lists)
           ∙ ap (λ o. option_or o (missing_list lists (drop (number + 1) forms))) c.in-Ok.ensures.there);
     }
 
@@ -44,4 +44,4 @@ returns-in-Err-clause-missing c =
     omega (arith, c.loop-number-test.true, c.selection_count-number-end.ensures, length-map all (λ (s : PlacedForm). s.form)) in
     let so_far = c.loop-number.invariant in
     missing-first c.in-Err.fault (first_missing lists selection) (missing_list lists (drop (number + 1) forms)) (missing_list lists forms)
-    (so_far.missing ∙ missing-more forms number selection within c.selection.ensures lists) c.in-Err.ensures.missing
+    (so_far.missing ∙ missing-more forms number selection within c.selection.ensures lists (c.missing_law.ensures lists)) c.in-Err.ensures.missing

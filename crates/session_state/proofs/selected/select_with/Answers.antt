@@ -22,7 +22,7 @@ nodes_without-requires-clause-asked g c =
     let runs = g.B.Loan.runs in
     let count = as-many c.args.path.now.plans.now c.args.runs.now c.requires.runs ∙ ap length c.requires.lent_runs in
     asked-weaker (λ k. k < length c.args.path.now.plans.now) (λ k. (r : NodeRef) → IsElement root r → IsTrue (may_ask runs root k r) × OnNode root r (λ s. span_at root r ≡ span s))
-    (λ k less r e. may-asked runs root k (omega (arith, less, count)) r e) (steps (map step c.args.path.now.steps.now)) c.requires.plans
+    (λ k less r e. (may-asked runs root k (omega (arith, less, count)) r e, c.node_law.ensures.element root r e)) (steps (map step c.args.path.now.steps.now)) c.requires.plans
 
 pub returns-clause-runs : goal.returns-clause-runs
 returns-clause-runs g c =

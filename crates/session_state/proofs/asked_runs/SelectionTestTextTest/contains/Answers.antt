@@ -1,21 +1,17 @@
 -- The node is there, its span is that of its words in the document, and the judge is asked with its run.
-use Rattle.std.proofs.Common.{◌≡◌, ◌∙◌, sym, ap, subst, ◌≤◌, ◌+◌, get_or, arith}
+use Rattle.std.proofs.Common.{◌≡◌, ◌∙◌, sym, ap, subst, ◌≤◌, ◌+◌, get_or}
 use Rattle.ft_base.specs.declared.span.Span.{Span}
 use Rattle.index_meaning.specs.Documents.{document_at, token_count}
-use Rattle.index_phrases.specs.Tokens.{IsSpan}
-use Rattle.ordered_tree.specs.Numbered.{plain}
-use Rattle.path_meaning.specs.Elements.{Element}
+use Rattle.index_phrases.specs.Phrases.{words_at}
+use Rattle.index_phrases.specs.Tokens.{span_tokens}
 use Rattle.path_nodes.specs.References.{element_of}
-use Rattle.path_nodes.proofs.SpotLemmas.{spot-stand}
-use Rattle.tokenizer.specs.Tokens.{tokens}
-use Rattle.session_state.proofs.SelectionTestLemmas.{asked-node, asked-run, met-at, over-at, reference-there, run-lent, spent-within, span-inside, span-there}
-use Rattle.session_state.proofs.TextLemmas.{tokens-at-span}
+use Rattle.session_state.proofs.SelectionTestLemmas.{asked-run, asked-there, met-at, over-at, run-lent, spent-within}
 use Rattle.session_state.proofs.asked_runs.SelectionTestTextTest.contains.Goals as goal
 
 pub span_of-span-requires : goal.span_of-span-requires
 span_of-span-requires g c =
     let root = c.args.self.now.tree.now.root in
-    reference-there root c.args.node (asked-node g.B.Loan.runs root c.args.selection c.args.node c.requires)
+    c.node_law.ensures.there root c.args.node (asked-there g.B.Loan.runs root c.args.selection c.args.node c.requires)
 
 pub judge-requires-clause-there : goal.judge-requires-clause-there
 judge-requires-clause-there g c =
@@ -36,13 +32,13 @@ judge-requires-clause-inside g c =
     let k = c.args.selection in
     let run = get_or c.args.self.now.runs.now k c.index-runs-selection.result in
     let doc = c.args.self.now.doc.0 in
-    let n = asked-node runs root k c.args.node c.requires in
-    let among = spot-stand root n.spot n.among in
+    let node = c.args.node in
+    let there = asked-there runs root k node c.requires in
     let is : get_or runs k run ≡ run = run-lent runs c.args.self.now.runs.now k c.index-runs-selection.result c.args.self.now.same c.index-runs-selection.is in
-    let follows = over-at abbreviations runs k run (doc, root) (asked-run runs root k c.args.node c.requires) is c.args.self.now.over in
-    let below = span-inside abbreviations run.version doc root follows n.spot.stand among in
+    let follows = over-at abbreviations runs k run (doc, root) (asked-run runs root k node c.requires) is c.args.self.now.over in
+    let inside = c.span_law.ensures.there abbreviations run.version doc root node follows there in
     subst (λ (s : Span). (1 ≤ s.from) × (s.from ≤ s.to) × (s.to ≤ token_count (document_at doc run.version) + 1))
-    (sym (c.span_of-span.ensures.positions n.spot.stand among n.refers)) (omega arith, omega arith, below)
+    (sym (c.node_law.ensures.span root node c.span_of-span.result there c.span_of-span.ensures.positions)) (inside.first, inside.order, inside.last)
 
 pub returns-clause-says : goal.returns-clause-says
 returns-clause-says g c =
@@ -52,19 +48,16 @@ returns-clause-says g c =
     let k = c.args.selection in
     let run = get_or c.args.self.now.runs.now k c.index-runs-selection.result in
     let doc = c.args.self.now.doc.0 in
-    let n = asked-node runs root k c.args.node c.requires in
-    let among = spot-stand root n.spot n.among in
-    let less = asked-run runs root k c.args.node c.requires in
+    let node = c.args.node in
+    let there = asked-there runs root k node c.requires in
+    let less = asked-run runs root k node c.requires in
     let is : get_or runs k run ≡ run = run-lent runs c.args.self.now.runs.now k c.index-runs-selection.result c.args.self.now.same c.index-runs-selection.is in
     let follows = over-at abbreviations runs k run (doc, root) less is c.args.self.now.over in
-    let inside = subst (λ (s : Span). IsSpan s (document_at doc run.version)) (sym (c.span_of-span.ensures.positions n.spot.stand among n.refers))
-    (span-there abbreviations run.version doc root follows n.spot.stand among) in
-    let same = tokens-at-span abbreviations run.version doc root c.span_of-span.result (tokens abbreviations (plain n.spot.stand.node)) follows inside
-    (c.span_of-span.ensures.tokens abbreviations n.spot.stand among n.refers) in
+    let same = ap (λ at. span_tokens at (document_at doc run.version)) (c.node_law.ensures.span root node c.span_of-span.result there c.span_of-span.ensures.positions)
+    ∙ c.span_law.ensures.tokens abbreviations run.version doc root node follows there in
     c.judge.ensures.says
     ∙ (ap (g.J.Judge.says run.form run.lists) same
-    ∙ (ap (λ (e : Element). g.J.Judge.says run.form run.lists (tokens abbreviations e.node)) (sym n.is)
-    ∙ sym (met-at g.J.Judge.says abbreviations runs k run (element_of root c.args.node) less is)))
+    ∙ sym (met-at g.J.Judge.says abbreviations runs k run (element_of root node) less is (c.left_law.ensures.nothing abbreviations (element_of root node))))
 
 pub returns-clause-cost : goal.returns-clause-cost
 returns-clause-cost g c =
@@ -74,9 +67,11 @@ returns-clause-cost g c =
     let k = c.args.selection in
     let run = get_or c.args.self.now.runs.now k c.index-runs-selection.result in
     let doc = c.args.self.now.doc.0 in
-    let less = asked-run runs root k c.args.node c.requires in
+    let node = c.args.node in
+    let there = asked-there runs root k node c.requires in
+    let less = asked-run runs root k node c.requires in
     let is : get_or runs k run ≡ run = run-lent runs c.args.self.now.runs.now k c.index-runs-selection.result c.args.self.now.same c.index-runs-selection.is in
     let follows = over-at abbreviations runs k run (doc, root) less is c.args.self.now.over in
-    let n = asked-node runs root k c.args.node c.requires in
-    let there = c.span_of-span.ensures.tokens abbreviations n.spot.stand (spot-stand root n.spot n.among) n.refers in
-    spent-within abbreviations runs k run doc root c.args.node n c.span_of-span.result c.args.self.now.moves.now c.judge.new.moves less is follows there c.judge.ensures.price
+    let words = ap (λ at. words_at at (document_at doc run.version)) (c.node_law.ensures.span root node c.span_of-span.result there c.span_of-span.ensures.positions)
+    ∙ c.span_law.ensures.words abbreviations run.version doc root node follows there in
+    spent-within runs k run doc root node c.span_of-span.result c.args.self.now.moves.now c.judge.new.moves less is words c.judge.ensures.price

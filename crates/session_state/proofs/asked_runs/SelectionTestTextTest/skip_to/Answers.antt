@@ -19,5 +19,11 @@ returns g c =
     let k = c.args.selection in
     let run = c.index-runs-selection.result in
     let is : get_or runs k run ≡ run = ap (λ rs. get_or rs k run) (sym c.args.self.now.same) ∙ sym c.index-runs-selection.is in
-    skipped g.J.Judge.says g.B.Loan.abbreviations runs c.args.self.now.tree.now.root k run c.args.self.now.doc.0 c.args.from c.skip_to.result is
-    c.args.self.now.over c.skip_to.ensures.none
+    let abbreviations = g.B.Loan.abbreviations in
+    let root = c.args.self.now.tree.now.root in
+    let doc = c.args.self.now.doc.0 in
+    let less : k < length runs = omega (arith, c.if-selection-runs.false, ap length c.args.self.now.same) in
+    let follows = over-at abbreviations runs k run (doc, root) less is c.args.self.now.over in
+    skipped g.J.Judge.says abbreviations runs root k run doc c.args.from c.skip_to.result is
+    (λ r there. (c.span_law.ensures.there abbreviations run.version doc root r follows there, c.span_law.ensures.tokens abbreviations run.version doc root r follows there))
+    (c.left_law.ensures.nothing abbreviations) c.skip_to.ensures.none
