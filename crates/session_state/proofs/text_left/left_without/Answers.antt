@@ -34,6 +34,8 @@ returns-clause-left g c =
     let at = c.node_law.ensures.span root node c.span_of-part.result c.requires.node c.span_of-part.ensures.positions in
     let same = c.span_law.ensures.tokens abbreviations version doc root node c.requires.follows c.requires.node in
     let found = c.left_law.ensures.span abbreviations root node holes (document_at doc version) c.requires.node c.requires.holes same in
-    let spans = λ i. tokens_without (at i) (c.in_ok-spans.ensures i) (document_at doc version) in
-    let copied = ap (λ hs. tokens_left abbreviations (map (element_of root) hs) (element_of root node)) (sym (c.in_ok-holes.ensures ∙ c.as_slice.ensures)) in
-    (c.in_ok-view.ensures.there, c.in_ok-view.ensures.tokens ∙ (spans ∙ (found ∙ copied)))
+    let copied = ap (λ hs. tokens_left abbreviations (map (element_of root) hs) (element_of root node)) (sym (c.in_ok-holes.ensures ∙ c.as_slice.ensures)) in (
+      c.in_ok-view.ensures.there,
+      c.in_ok-view.ensures.tokens
+          ∙ ((λ i. tokens_without (at i) (c.in_ok-spans.ensures i) (document_at doc version)) ∙ (found ∙ copied)),
+    )
