@@ -338,32 +338,16 @@ def test_what_an_edit_brings_is_known(ask: Ask, folder: Path) -> None:
     assert "hint" not in shown and "new:one 1" in shown and "two 1" in shown and "k 1" in shown
 
 
-def make_large(folder: Path) -> None:
-    """Files with enough bytes for two programs, of which two can't be taken."""
+def test_a_large_folder_is_divided_among_programs_by_itself(ask: Ask, tmp_path: Path, monkeypatch: pytest.MonkeyPatch) -> None:
+    """With enough bytes of files for two programs, in order and in bytes as with one; what isn't taken comes in its order too."""
     for number in range(12):
         inside = "</r>" if number in (4, 9) else f"<p n='{number}'>storm {number}</p>" + "<!-- " + " " * 800_000 + " -->"
-        (folder / f"{number:02}.xml").write_text(f"<r>{inside}</r>")
-
-
-def test_a_large_folder_is_divided_among_programs_by_itself(ask: Ask, tmp_path: Path) -> None:
-    """In order and in bytes as with one program; what isn't taken comes in its order too."""
-    make_large(tmp_path)
+        (tmp_path / f"{number:02}.xml").write_text(f"<r>{inside}</r>")
     questions = [STORM, 'collection()//p[. contains text "storms"]', "collection()//q[", 'doc("03.xml")//p', "collection()//r[3]"]
     words = [tmp_path, "--no-cache", *(it for path in questions for it in ("--query", path))]
     one, several = ask(*words, "--workers", "1"), ask(*words)
     assert (several.stdout, several.stderr, several.returncode) == (one.stdout, one.stderr, one.returncode)
     assert one.stdout.count("storm ") == 11 and one.stderr.index("04.xml") < one.stderr.index("09.xml")
-
-
-def test_a_large_folder_is_divided_at_the_prompt_until_a_command_wants_one_program(ask: Ask, tmp_path: Path) -> None:
-    make_large(tmp_path)
-    typed = f'{STORM}\nshow doc("03.xml")//p\nload new\n<r><p>storm new</p></r>\n.\ndrop 02.xml\nexplain "a" ftor "a"\nmark old\n'
-    typed += f'delete doc("03.xml")//p\nquery at old {STORM}\n{STORM}\ninsert last doc("new")/r\n<p>storm newer</p>\n.\n{STORM}\nprint doc("new")//p\nload new\n<r/>\n.\n'
-    one, several = (ask(tmp_path, "--no-cache", *words, typed=typed) for words in (["--workers", "1"], []))
-    told = "mark is for one program, which takes all documents in now\n"
-    assert told not in one.stdout and several.stdout.count(told) == (1 if len(os.sched_getaffinity(0)) > 1 else 0)
-    assert several.stdout.replace(told, "") == one.stdout and several.returncode == one.returncode
-    assert one.stdout.count("<p>storm newer</p>") == 1 and "there is one called new" in one.stdout
 
 
 @pytest.mark.parametrize("workers", ["1", "3"])

@@ -263,21 +263,6 @@ def test_several_programs_that_divide_the_documents_are_served_too(program: Path
         assert it.lines(STORM)[1]["count"] == 3
 
 
-def test_a_large_folder_is_divided_by_itself_also_after_a_change(program: Path, tmp_path: Path) -> None:
-    """An answer comes in the order of the files, whichever share holds them."""
-    names = [f"{number}.xml" for number in range(6)]
-    for number, name in enumerate(names):
-        (tmp_path / name).write_text(f"<r><p>storm {number}</p><!-- {' ' * 1_600_000} --></r>")
-    with served(program, tmp_path, "--no-cache") as it:
-        it.comes_to(idle=2)
-        assert len(it.children()) == (4 if len(os.sched_getaffinity(0)) > 1 else 2)
-        assert [row["document"] for row in it.lines(STORM)[2:-1]] == names
-        (tmp_path / "1.xml").write_text("<r><p>a storm more</p></r>")
-        for number in range(4):
-            assert [row["document"] for row in it.lines(STORM, as_typed=number % 2)[2:-1]] == names
-        assert it.lines('doc("1.xml")//p[. contains text "more"]')[1]["count"] == 1
-
-
 def test_abbreviations_are_those_of_the_call_also_after_a_change(program: Path, tmp_path: Path) -> None:
     question = 'collection()/p[. contains text "dr" ftand "hill" same sentence]'
     (tmp_path / "one.xml").write_text("<p>Dr. Hill ran</p>")

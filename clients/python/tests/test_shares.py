@@ -16,7 +16,7 @@ import pytest
 pytest.importorskip("lxml")
 
 from ftq_ask.shares import LeftOut, Shares, divided, in_turn, local_shares  # noqa: E402
-from ftq_client import BadLine, NameTaken, NoSuchDocument, NoSuchList, NoSuchName, QueryFault, Refusal, Session  # noqa: E402
+from ftq_client import BadLine, NameTaken, NoSuchDocument, NoSuchList, NoSuchName, QueryFault, Session  # noqa: E402
 
 
 def test_documents_are_divided_in_order_and_by_size() -> None:
@@ -77,7 +77,7 @@ def check(shares: Shares, one: Session) -> None:
             engine.command("abbreviations", b"e.g.\ne. g.")
         assert bad.value.line == 2
     with pytest.raises(ValueError):
-        shares.command("gather collection()//b")
+        shares.command("delete collection()//b")
     assert [it.line for it in shares.query("collection()//b")] == [it.line for it in one.query("collection()//b")]
 
 
@@ -102,56 +102,6 @@ def test_local_programs_answer_as_one(program: Path) -> None:
     assert shares.close() == 1 and one.close() == 1
 
 
-UNDIVIDED = (
-    "mark before",
-    "watch sevens collection()//b[. contains text \"7\"]",
-    "stats",
-    'delete doc("d7")//b',
-    "changes sevens",
-    "query at before collection()//b",
-    "query collection()//b",
-    "unwatch sevens",
-    "unmark before",
-    "delete collection()//",
-    "watch sevens collection()//",
-)
-
-
-@pytest.mark.parametrize("first", range(5))
-def test_one_program_takes_all_in_where_a_command_is_not_divided(program: Path, first: int) -> None:
-    """Whichever of them comes first, in the order of the documents, with the lists, and with what came and went before."""
-    shares, one = filled(local_shares(3, program), 20), one_session(program, 20)
-    for engine in (shares, one):
-        engine.abbreviations(b"word.")
-        engine.stop("s", b"a")
-        engine.drop("d3")
-        engine.load("d3", b"<a><b>word. three</b></a>")
-    replies: list[list[str]] = []
-    for engine in (shares, one):
-        rows: list[str] = []
-        for line in (*UNDIVIDED[first:], "query collection()//b[. contains text \"a three\" using stop words at \"s\"]", "query collection()//b"):
-            try:
-                rows.append(str(engine.command(line)))
-            except Refusal as refusal:
-                rows.append(str(refusal))
-        replies.append(rows)
-    assert replies[0] == replies[1]
-    assert shares.count == 1 and not shares.gathers_for("stats")
-    with pytest.raises(NameTaken):
-        shares.load("d3", b"<a/>")
-    assert shares.close() == 1 and one.close() == 1
-
-
-def test_what_is_too_much_for_one_program_stays_divided(program: Path) -> None:
-    shares = filled(local_shares(2, program), 6)
-    for engine in shares._engines:
-        engine.limit = 65_536 + 100
-    with pytest.raises(ValueError, match="mark is not divided among several programs: 6 documents"):
-        shares.command("mark before")
-    assert shares.count == 2 and len(shares.query("collection()//b")) == 6
-    shares.close()
-
-
 def test_an_interrupt_ends_the_programs_and_they_are_started_again(program: Path) -> None:
     shares = filled(local_shares(2, program), 6)
     before = [it.pid for it in shares._engines]
@@ -169,9 +119,6 @@ def test_a_schedulers_workers_answer_as_one(program: Path) -> None:
     with distributed.LocalCluster(n_workers=2, threads_per_worker=1, host="127.0.0.1", dashboard_address=None) as cluster:
         shares, one = filled(scheduled_shares(cluster.scheduler_address, 4, program), 20), one_session(program, 20)
         check(shares, one)
-        assert not shares.gathers_for("delete collection()//b")
-        with pytest.raises(ValueError, match="delete is not divided"):
-            shares.command("delete collection()//b")
         assert shares.close() == 1 and one.close() == 1
 
 

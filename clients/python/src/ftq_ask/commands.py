@@ -87,12 +87,12 @@ def _engine(options: argparse.Namespace) -> Any:
     program = options.program or find_program()
     if options.scheduler:
         return scheduled_shares(options.scheduler, options.workers, program)
-    return engine_of(program, 1 if options.follow else options.workers or usual_workers(options))
+    return engine_of(program, options.workers or (_usual_workers(options) if options.query else 1))
 
 
-def usual_workers(options: argparse.Namespace) -> int:
+def _usual_workers(options: argparse.Namespace) -> int:
     """Among how many programs the documents are divided where the call doesn't say: among as many as there are processors, where there is enough to
-    do for each."""
+    do for each. That is for calls with --query, which ask nothing that isn't divided."""
     most = min(MOST_PROCESSES, len(os.sched_getaffinity(0)))
     return max(1, bytes_at(options.paths, most * BYTES_EACH) // BYTES_EACH)
 

@@ -5,16 +5,12 @@ from __future__ import annotations
 import copy
 from collections import deque
 from pathlib import Path
-from typing import Any, Callable, Iterable, Sequence
+from typing import Any, Callable, Iterable
 
 from ftq_client import Refusal, Session, SessionFull, command_bytes
-from ftq_client.blocks import MOST_LINE_BYTES
 from ftq_client.program import Process
 
-from .shares import Document, Faults, Holder, local_shares
-
-MOST_DOCUMENTS = 4_096
-"""How many documents a program holds."""
+from .shares import Document, Faults, Shares
 
 MOST_SENT = 16
 """How many documents are sent before the reply to the first of them is looked at."""
@@ -75,21 +71,6 @@ class Loading(Session):
         return other
 
 
-def gathered(engines: Sequence[Holder | None]) -> Loading:
-    """A session with what several hold, once it is asked something: the lists of the first, and the documents of all, those of the first before
-    those of the second. `SessionFull` where they are too much for one."""
-    first, *others = [it for it in engines if isinstance(it, Loading)]
-    one = first.twin()
-    one.timeout = first.timeout
-    for other in others:
-        one._history.join(other._history)
-    count, size = sum(1 for it in one._history.commands if it.startswith(b"load ")), one._history.size
-    if count > MOST_DOCUMENTS or size + MOST_LINE_BYTES > one.limit:
-        one.close()
-        raise SessionFull(f"{count:,} documents of {size:,} bytes are more than one program holds")
-    return one
-
-
 def engine_of(program: Path, workers: int | None) -> Any:
     """One program, or so many that divide the documents."""
-    return local_shares(workers, program) if workers and workers > 1 else Loading(program)
+    return Shares([Loading(program) for _ in range(workers)]) if workers and workers > 1 else Loading(program)

@@ -17,9 +17,10 @@ from ftq_client.names import OPENINGS
 
 from .calls import add_arguments
 from .choosing import Choice, rules_of
-from .engines import MOST_DOCUMENTS
 from .reading import MOST_BYTES, Reading, read_file
 from .trees import Untaken
+
+MOST_DOCUMENTS = 4_096
 
 
 class Packing:

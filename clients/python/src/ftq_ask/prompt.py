@@ -27,7 +27,6 @@ from .marking import Marking, hint_of
 from .missing import all_hints
 from .mistakes import advice_for
 from .paths import missing_end, path_in
-from .shares import Shares
 from .showing import Marked, pieces_of
 
 SHOWN = 10
@@ -149,9 +148,6 @@ class Conversation:
         answers.say_hints(self.out, all_hints(path, found, self.collection))
 
     def _command(self, line: str, block: bytes | None) -> None:
-        engine = self.collection.engine
-        if isinstance(engine, Shares) and engine.gathers_for(line):
-            answers.say(self.out, Text(f"{first_word(line)} is for one program, which takes all documents in now", "dim"))
         try:
             reply = self.collection.command(line, block)
         except Refusal as refusal:

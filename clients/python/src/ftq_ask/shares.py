@@ -14,7 +14,7 @@ import tempfile
 from collections import deque
 from concurrent.futures import Future, ThreadPoolExecutor, wait
 from pathlib import Path
-from typing import TYPE_CHECKING, Any, Callable, Iterable, Protocol, Sequence, TypeVar, cast
+from typing import TYPE_CHECKING, Any, Callable, Iterable, Protocol, TypeVar, cast
 
 import ftq_client
 from ftq_client import (
@@ -29,7 +29,6 @@ from ftq_client import (
     ProgramEnded,
     Reply,
     Session,
-    SessionFull,
     Shown,
     command_words,
 )
@@ -55,9 +54,6 @@ BYTES_TOGETHER = 250_000
 
 MOST_GROUPS = 3
 """How many such groups wait for each share."""
-
-UNDIVIDED = frozenset({"insert", "replace", "delete", "mark", "unmark", "watch", "changes", "unwatch", "stats"})
-"""The first words of the commands that one program has to answer."""
 
 Document = tuple[int, str, bytes]
 """A document that is to be loaded, behind its share and its name."""
@@ -178,20 +174,12 @@ def in_turn(sizes: list[int], shares: list[int]) -> list[int]:
 class Shares:
     """An engine over several others. Documents go to the share that was last told of, and to the last one at first."""
 
-    def __init__(
-        self,
-        engines: list[Holder | None],
-        at_end: Callable[[], None] = lambda: None,
-        another: Callable[[int], Holder] | None = None,
-        gather: Callable[[Sequence[Holder | None]], Holder] | None = None,
-    ) -> None:
+    def __init__(self, engines: list[Holder | None], at_end: Callable[[], None] = lambda: None, another: Callable[[int], Holder] | None = None) -> None:
         """Over these engines; `at_end` is called when they are closed. `another` makes an engine for the share of that number on a machine
-        that is there, or raises `Lost`; it is called where an engine raises `Lost`. `gather` makes one engine that holds what all hold, and is called
-        where a command comes that isn't divided."""
+        that is there, or raises `Lost`; it is called where an engine raises `Lost`."""
         self._engines = engines
         self._at_end = at_end
         self._another = another
-        self._gather = gather
         self._kept = [Kept() for _ in engines] if another else []
         self.moves = 0
         """How often a share was given to another machine."""
@@ -300,8 +288,8 @@ class Shares:
         return self._joined(path, lambda it: it.show(path))
 
     def command(self, line: str, block: bytes | None = None) -> Reply:
-        """The reply to a command. Queries go to all shares, lists too, documents to the share that is theirs. Where a command comes that isn't
-        divided, one program gets all documents and answers from then on, or a `ValueError` tells of it."""
+        """The reply to a command. Queries go to all shares, lists too, documents to the share that is theirs; a `ValueError` tells of
+        a command that isn't divided."""
         words = command_words(line, self.session_format)
         kind, names = (words[0] if words else ""), words[1:]
         if kind in ("query", "print", "show"):
@@ -317,30 +305,8 @@ class Shares:
         elif kind in ("stems", "abbreviations") and not names and block is not None:
             self._give(kind, "", block)
         else:
-            if self.count > 1:
-                self._gather_for(kind)
-            return self._asked(lambda it: it.command(line, block))[0].result()
-        return Done()
-
-    def gathers_for(self, line: str) -> bool:
-        """Whether a command has one program get all documents."""
-        return self.count > 1 and self._gather is not None and line.split(" ", 1)[0] in UNDIVIDED
-
-    def _gather_for(self, kind: str) -> None:
-        """Has one engine hold all documents, in their order, in the place of several."""
-        if self._gather is None or kind not in UNDIVIDED:
             raise ValueError(f"{kind or 'an empty line'} is not divided among several programs")
-        try:
-            one = self._gather(self._engines)
-        except SessionFull as full:
-            raise ValueError(f"{kind} is not divided among several programs: {full}") from full
-        self.interrupt()
-        for share in range(self.count):
-            self._close(share)
-        for lane in self._lanes[1:]:
-            lane.shutdown()
-        self._engines, self._lanes, self.share = [one], self._lanes[:1], 0
-        self._homes = dict.fromkeys(self._homes, 0)
+        return Done()
 
     def give_up_after(self, seconds: float | None) -> None:
         """Lets each share raise `TimedOut` where it takes longer to answer."""
@@ -353,7 +319,7 @@ class Shares:
 
     def twin(self) -> "Shares":
         """The same shares anew, each over an engine that is made like this one's."""
-        other = Shares([it.twin() for it in self._engines if it is not None], gather=self._gather)
+        other = Shares([it.twin() for it in self._engines if it is not None])
         other._homes = dict(self._homes)
         return other
 
@@ -471,9 +437,9 @@ def _lines(reply: Reply) -> list[str]:
 
 def local_shares(count: int, program: Path | None = None) -> Shares:
     """So many programs on this machine."""
-    from .engines import Loading, gathered
+    from .engines import Loading
 
-    return Shares([Loading(program) for _ in range(count)], gather=gathered)
+    return Shares([Loading(program) for _ in range(count)])
 
 
 class RemoteSession:

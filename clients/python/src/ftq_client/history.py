@@ -51,12 +51,6 @@ class History:
         words = command_words(line, session_format)
         self._add(Kept(words[0], words[1] if len(words) > 1 else "", command))
 
-    def join(self, other: "History") -> None:
-        """Takes over the documents of another session, which has the same lists."""
-        for it in other._kept:
-            if it.kind not in LISTS:
-                self._add(it)
-
     def tidy(self) -> None:
         """Forgets also what stood there for the sake of marks and watches that are forgotten, or set later."""
         kept, self._kept, self._plain = self._kept, [], True

@@ -27,7 +27,7 @@ from ..beside import ADDRESS, forget, key_of, note
 from ..calls import add_collection, number, seconds
 from ..choosing import Choice, rules_of
 from ..collection import Collection
-from ..commands import FAULT, load, loaded, reader_of, tell, usual_workers
+from ..commands import FAULT, load, loaded, reader_of, tell
 from ..engines import engine_of
 from ..lists import NoList, Stems
 from .application import Served
@@ -78,7 +78,7 @@ def serve(arguments: list[str]) -> int:
         abbreviations = Abbreviations(options.abbreviations)
         stems = Stems(options.stem) if options.stem else None
         program = options.program or find_program()
-        collection = Collection(engine_of(program, options.workers or usual_workers(options)), stems, Choice(options.glob), rules_of(options))
+        collection = Collection(engine_of(program, options.workers), stems, Choice(options.glob), rules_of(options))
         collection.reader = reader_of(options)
         files = Files([str(it) for it in options.paths])
         looked = files.look(time.time_ns(), set())
