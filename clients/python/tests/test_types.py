@@ -1,4 +1,4 @@
-"""The types of both packages, and of the client as a program of a user's sees them."""
+"""The types of the client, as a program of a user's sees them."""
 
 from __future__ import annotations
 
@@ -30,12 +30,9 @@ async def ask(session: AsyncSession) -> list[Element]:
 """
 
 
-HERE = TOP / "clients" / "python"
-
-
 def checked(*words: object, cache: Path) -> subprocess.CompletedProcess[str]:
     """What mypy says where nothing is let pass."""
-    environment = {**os.environ, "MYPYPATH": str(HERE / "src")}
+    environment = {**os.environ, "MYPYPATH": str(TOP / "clients" / "python" / "src")}
     command = [sys.executable, "-m", "mypy", "--strict", "--cache-dir", str(cache), *map(str, words)]
     return subprocess.run(command, capture_output=True, text=True, cwd=cache.parent, env=environment, timeout=900)
 
@@ -51,11 +48,3 @@ def test_the_client_and_who_uses_it_are_strict(tmp_path: Path) -> None:
     faulty.write_text(PROGRAM.replace('"last"', '"middle"').replace("list[Shown]", "list[str]"))
     ran = checked(faulty, cache=tmp_path / "cache")
     assert ran.returncode == 1 and ran.stdout.count(": error:") == 2, ran.stdout
-
-
-def test_the_tools_are_strict(tmp_path: Path) -> None:
-    """Both packages, as pyproject.toml says; what has no types of its own is described in stubs."""
-    for module in ("rich", "prompt_toolkit", "starlette", "jinja2"):
-        pytest.importorskip(module)
-    ran = checked("--config-file", HERE / "pyproject.toml", cache=tmp_path / "cache")
-    assert ran.returncode == 0, ran.stdout

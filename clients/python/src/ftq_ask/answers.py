@@ -203,8 +203,7 @@ def write_lines(console: Console, lines: Iterable[tuple[int, str]], here: int, w
 
 def write_pieces(console: Console, row: Iterable[Piece]) -> None:
     """A stretch of text with its marked words."""
-    parts: list[str | tuple[str, str]] = [(it.text, "bold green") if it.asked else it.text for it in row]
-    say(console, Text.assemble("    ", *parts))
+    say(console, Text.assemble("    ", *((it.text, "bold green") if it.asked else it.text for it in row)))
 
 
 def counted(count: int) -> str:
@@ -255,11 +254,6 @@ def say_refusal(console: Console, path: str, refusal: Refusal, collection: Colle
         say(console, Text(prefix + in_words(refusal, collection.sources), "red"))
 
 
-def _word(refusal: Refusal) -> str:
-    """The name that a refusal tells, as a command has it."""
-    return name_word(refusal.name or "")
-
-
 _WORDS: dict[int, Callable[[Refusal], str]] = {
     1: lambda it: "this is no command of the language",
     2: lambda it: "a name has 1 to 64 characters, none of them a control character; it stands between quotes where one isn't a letter, a digit, ., _ or -",
@@ -270,7 +264,7 @@ _WORDS: dict[int, Callable[[Refusal], str]] = {
         "why an element is found is shown where the last predicate of the path's last step is . contains text alone, which ignores nothing, without "
         "occurs under a filter and without ftnot or occurs inside ftnot"
     ),
-    9: lambda it: f"there is no list {it.name}: load it with stop {_word(it)} or thesaurus {_word(it)}, or by --stop",
+    9: lambda it: f"there is no list {it.name}: load it with stop {name_word(it.name)} or thesaurus {name_word(it.name)}, or by --stop",
 }
 
 

@@ -207,8 +207,8 @@ def _keys(path: Path, own: bytes, rules: Rules) -> tuple[bytes, bytes]:
     """By what a reading is found: what the file holds and how it is read, and where something was looked for beside it, its folders too."""
     told = (rules.doctypes, rules.includes, rules.catalogs, rules.drop_blanks, sorted(rules.blocks))
     key = own + hashlib.blake2b(repr((told, _version(), _catalogs() if rules.catalogs else None)).encode("utf-8"), digest_size=16).digest()
-    folders = [os.path.abspath(path.parent), *(os.fspath(it) for it in rules.folders_for(path))]
-    return key, key + hashlib.blake2b(b"\0".join(os.fsencode(it) for it in folders), digest_size=16).digest()
+    folders = [os.path.abspath(path.parent), *map(os.fspath, rules.folders_for(path))]
+    return key, key + hashlib.blake2b(b"\0".join(map(os.fsencode, folders)), digest_size=16).digest()
 
 
 @lru_cache(maxsize=1)

@@ -12,7 +12,6 @@ from ftq_client import (
     BadLine,
     ClientError,
     DocumentFault,
-    Found,
     Full,
     Names,
     NothingToShow,
@@ -248,26 +247,21 @@ class Collection:
 
     def _lines(self, front: str, path: str) -> list[str]:
         """The lines of the reply to a command with this path at its end."""
-        reply = self.reply_to(front, path)
-        assert isinstance(reply, Found)
-        return list(reply.lines)
+        return list(self.reply_to(front, path).lines)
 
-    def reply_to(self, front: str, path: str) -> Reply:
+    def reply_to(self, front: str, path: str) -> Any:
         """The reply to a command with this path at its end. The stems of the words that it asks for are sent before, where they are new. A path
         that is only faulty as it is sent is asked for as it is typed."""
         sent = self.sent(path)
         if self.stems and is_said(path, "using", "stemming") and self.stems.add_asked(sent):
             self.send_stems()
-        reply: Reply
         for asked in dict.fromkeys((self._of_file(sent), self._of_file(path))):
             if asked != path:
                 try:
-                    reply = self.engine.command(front + asked)
-                    return reply
+                    return self.engine.command(front + asked)
                 except QueryFault:
                     pass
-        reply = self.engine.command(front + path)
-        return reply
+        return self.engine.command(front + path)
 
     def fault_of(self, path: str) -> Fault | None:
         """The fault that the program finds in a path, if there is one. It is asked of a document that can't be there, so that nothing is
@@ -297,7 +291,7 @@ class Collection:
         """The reply to any command. What is known of the documents is kept up with what it loads, drops and edits."""
         kind, *names = command_words(line, self.session_format)
         edited = self._documents_of(path_in(line)) if kind in EDITS else set()
-        reply: Reply = self.engine.command(line, block)
+        reply = self.engine.command(line, block)
         for name in edited & self.sources.keys():
             self._note_edit(name, names_of_nodes(block) if block else Vocabulary())
         if kind == "load" and block is not None:

@@ -11,7 +11,7 @@ from argparse import Namespace
 from contextlib import contextmanager
 from itertools import chain
 from pathlib import Path
-from typing import Callable, Iterator
+from typing import Any, Callable, Iterator
 
 from rich.console import Console
 from rich.text import Text
@@ -88,7 +88,7 @@ class Stirred(FileSystemEventHandler):
 def watched(paths: list[Path]) -> Iterator[Stirred]:
     """What changes in these folders and of these files while this lasts; `Unwatched` where the system doesn't tell."""
     stirred = Stirred()
-    observer = Observer()
+    observer: Any = Observer()
     try:
         for folder in {it for it in paths if it.is_dir()}:
             observer.schedule(stirred, os.fspath(folder), recursive=True)

@@ -73,11 +73,8 @@ def _text(path: Path, include: etree._Element, part: Path) -> str:
 
 def _includes(root: etree._Element) -> list[etree._Element]:
     """The inclusions below an element, without those that stand in for others."""
-
-    def stands_in(it: etree._Element) -> bool:
-        return any(above.tag == _FALLBACK for above in it.iterancestors() if above is not root and root in above.iterancestors())
-
-    return [it for it in root.iter(INCLUDE) if not stands_in(it)]
+    inside = lambda it: any(above.tag == _FALLBACK for above in it.iterancestors() if above is not root and root in above.iterancestors())
+    return [it for it in root.iter(INCLUDE) if not inside(it)]
 
 
 def _part(path: Path, include: etree._Element, inside: tuple[Path, ...], looked: set[Path], folders: list[Path]) -> Path | None:
@@ -141,8 +138,8 @@ def _schemes(pointer: str) -> Iterator[tuple[str, str]]:
 
 def _with_id(root: etree._Element, name: str) -> list[etree._Element]:
     """The element of an identifier: by xml:id, or by an attribute id where no document type says more."""
-    found = _elements(root.xpath("descendant-or-self::*[@xml:id = $name]", name=name))
-    return (found or _elements(root.xpath("descendant-or-self::*[@id = $name]", name=name)))[:1]
+    found = root.xpath("descendant-or-self::*[@xml:id = $name]", name=name) or root.xpath("descendant-or-self::*[@id = $name]", name=name)
+    return list(found[:1])
 
 
 def _by_steps(root: etree._Element, data: str) -> list[etree._Element]:
@@ -156,13 +153,7 @@ def _by_steps(root: etree._Element, data: str) -> list[etree._Element]:
 
 def _by_path(root: etree._Element, data: str, prefixes: dict[str, str]) -> list[etree._Element]:
     """The elements of the scheme xpointer(), by an XPath of theirs, outer ones without those inside."""
-    path = re.sub(r"\bid\((\"[^\"]*\"|'[^']*')\)", r"//*[@xml:id = \1 or @id = \1]", data)
-    found = _elements(root.getroottree().xpath(path, namespaces=prefixes or None))
-    return [it for it in found if not any(above in found for above in it.iterancestors())]
-
-
-def _elements(found: object) -> list[etree._Element]:
-    """What an XPath leads to, where that is elements and nothing else."""
+    found = root.getroottree().xpath(re.sub(r"\bid\((\"[^\"]*\"|'[^']*')\)", r"//*[@xml:id = \1 or @id = \1]", data), namespaces=prefixes or None)
     if not isinstance(found, list) or not all(isinstance(it, etree._Element) for it in found):
         raise ValueError("it leads to something else than elements")
-    return found
+    return [it for it in found if not any(above in found for above in it.iterancestors())]

@@ -8,7 +8,6 @@ import signal
 import threading
 from collections import deque
 from concurrent.futures import BrokenExecutor, Future
-from dataclasses import dataclass
 from pathlib import Path
 from types import TracebackType
 from typing import TYPE_CHECKING, Iterator, TypeVar, Union
@@ -124,22 +123,15 @@ def read_group(paths: list[Path], rules: Rules) -> list[Read]:
     return rows
 
 
-@dataclass(frozen=True)
-class End:
-    """What stands behind the last of some rows: the error with which they ended, if there was one."""
-
-    error: BaseException | None = None
-
-
 def ahead(rows: Iterator[Row], most: int) -> Iterator[Row]:
     """The same rows, worked out in a thread before they are taken, so many at most."""
-    kept: queue.Queue[Row | End] = queue.Queue(most)
+    kept: queue.Queue[tuple[bool, Row | BaseException | None]] = queue.Queue(most)
     left = threading.Event()
 
-    def put(row: Row | End) -> None:
+    def put(more: bool, row: Row | BaseException | None) -> None:
         while not left.is_set():
             try:
-                kept.put(row, timeout=0.2)
+                kept.put((more, row), timeout=0.2)
                 return
             except queue.Full:
                 continue
@@ -147,23 +139,23 @@ def ahead(rows: Iterator[Row], most: int) -> Iterator[Row]:
     def work() -> None:
         try:
             for row in rows:
-                put(row)
+                put(True, row)
                 if left.is_set():
                     return
-            put(End())
+            put(False, None)
         except BaseException as error:
-            put(End(error))
+            put(False, error)
 
     thread = threading.Thread(target=work, name="ftq-reading", daemon=True)
     thread.start()
     try:
         while True:
-            row = kept.get()
-            if isinstance(row, End):
-                if row.error:
-                    raise row.error
+            more, row = kept.get()
+            if not more:
+                if isinstance(row, BaseException):
+                    raise row
                 return
-            yield row
+            yield row  # type: ignore[misc]
     finally:
         left.set()
         thread.join()

@@ -207,8 +207,7 @@ class Locator:
     def __init__(self, sources: dict[str, Source], rules: Rules, kept: Kept | None = None) -> None:
         self._sources = sources
         self._rules = rules
-        self.kept = kept or Kept()
-        """The documents that it has read."""
+        self._kept = kept or Kept()
 
     def locate(self, element: Element) -> Located:
         """The element in its file, or why it can't be shown there: a document without a file, a file that has changed."""
@@ -231,7 +230,7 @@ class Locator:
         if source.edited:
             return "the document was edited since it was read"
         known = source
-        return self.kept.get((name, known.digest), lambda: self._read(known))
+        return self._kept.get((name, known.digest), lambda: self._read(known))
 
     def _read(self, source: Source) -> "Document | str":
         try:

@@ -14,7 +14,7 @@ import tempfile
 from collections import deque
 from concurrent.futures import Future, ThreadPoolExecutor, wait
 from pathlib import Path
-from typing import TYPE_CHECKING, Any, Callable, Iterable, Protocol, TypeVar, cast
+from typing import Any, Callable, Iterable, TypeVar
 
 import ftq_client
 from ftq_client import (
@@ -32,11 +32,7 @@ from ftq_client import (
     Shown,
     command_words,
 )
-from ftq_client.blocks import Content
 from ftq_client.replies import LINES_EACH
-
-if TYPE_CHECKING:
-    from distributed import Client
 
 Answer = TypeVar("Answer")
 Part = TypeVar("Part")
@@ -60,28 +56,6 @@ Document = tuple[int, str, bytes]
 
 Faults = dict[str, Exception | None]
 """Of documents that were given to a program why each wasn't loaded, or that it was."""
-
-
-class Holder(Protocol):
-    """What holds the documents of a share: a session, here or on another machine."""
-
-    def load(self, name: str, content: Content) -> None: ...
-
-    def load_group(self, documents: list[Document]) -> Faults: ...
-
-    def drop(self, name: str) -> None: ...
-
-    def query(self, path: str) -> list[Element]: ...
-
-    def print(self, path: str) -> list[str]: ...
-
-    def show(self, path: str) -> list[Shown]: ...
-
-    def command(self, line: str, block: Content | None = None) -> Reply: ...
-
-    def twin(self) -> "Holder": ...
-
-    def close(self) -> int: ...
 
 
 class Lost(ClientError):
@@ -138,7 +112,7 @@ class Kept:
         """A list was given to it, or something else that the last call of its kind tells."""
         self._calls[method, name] = words
 
-    def give(self, engine: Holder) -> None:
+    def give(self, engine: Any) -> None:
         """Gives all of that to an engine that holds nothing."""
         for (method, _), words in self._calls.items():
             getattr(engine, method)(*words)
@@ -174,7 +148,7 @@ def in_turn(sizes: list[int], shares: list[int]) -> list[int]:
 class Shares:
     """An engine over several others. Documents go to the share that was last told of, and to the last one at first."""
 
-    def __init__(self, engines: list[Holder | None], at_end: Callable[[], None] = lambda: None, another: Callable[[int], Holder] | None = None) -> None:
+    def __init__(self, engines: list[Any], at_end: Callable[[], None] = lambda: None, another: Callable[[int], Any] | None = None) -> None:
         """Over these engines; `at_end` is called when they are closed. `another` makes an engine for the share of that number on a machine
         that is there, or raises `Lost`; it is called where an engine raises `Lost`."""
         self._engines = engines
@@ -186,8 +160,7 @@ class Shares:
         # A session is for one thread: each has a lane of its own, in which what is asked of it stands in a row.
         self._lanes = [ThreadPoolExecutor(max_workers=1) for _ in engines]
         self._homes: dict[str, int] = {}
-        first = _session(engines[0]) if engines else None
-        self.session_format = first.session_format if first else LATEST_FORMAT
+        self.session_format = engines[0].session_format if engines and isinstance(engines[0], Session) else LATEST_FORMAT
         """The format of the sessions of all of them."""
         self.share = len(engines) - 1
         """The share, from 0, that gets what is loaded next."""
@@ -234,7 +207,7 @@ class Shares:
     def _load_group(self, share: int, group: list[Document]) -> Faults:
         """Loads documents of one share, in its lane; tells of each the fault, if there was one."""
         try:
-            faults = self._ask(share, lambda it: it.load_group(group))
+            faults: Faults = self._ask(share, lambda it: it.load_group(group))
         except Exception as fault:
             return dict.fromkeys((name for _, name, _ in group), fault)
         for kept in self._kept[share : share + 1]:
@@ -254,7 +227,7 @@ class Shares:
         if name not in self._homes:
             raise NoSuchName(f"! 4 no such name: {name}", name=name)
         share = self._homes[name]
-        self._lanes[share].submit(lambda: self._ask(share, lambda it: it.drop(name))).result()
+        self._lanes[share].submit(self._ask, share, lambda it: it.drop(name)).result()
         for kept in self._kept[share : share + 1]:
             kept.drop(name)
         del self._homes[name]
@@ -293,10 +266,11 @@ class Shares:
         words = command_words(line, self.session_format)
         kind, names = (words[0] if words else ""), words[1:]
         if kind in ("query", "print", "show"):
-            return Found(tuple(self._joined(line.strip()[len(kind) :], lambda it: _lines(it.command(line)), LINES_EACH.get(kind, 1))))
+            return Found(tuple(self._joined(line.strip()[len(kind) :], lambda it: list(it.command(line).lines), LINES_EACH.get(kind, 1))))
         if kind == "explain":
             # No document is looked at.
-            return self._lanes[0].submit(lambda: self._ask(0, lambda it: it.command(line))).result()
+            explained: Reply = self._lanes[0].submit(lambda: self._ask(0, lambda it: it.command(line))).result()
+            return explained
         by_name = {"load": self.load, "stop": self.stop, "thesaurus": self.thesaurus}
         if kind in by_name and len(names) == 1 and block is not None:
             by_name[kind](names[0], block)
@@ -314,12 +288,13 @@ class Shares:
 
     def interrupt(self) -> None:
         """Ends the programs that are sessions of this machine, from another thread; they are started again when they are asked next."""
-        for session in filter(None, map(_session, self._engines)):
-            session.interrupt()
+        for engine in self._engines:
+            if isinstance(engine, Session):
+                engine.interrupt()
 
     def twin(self) -> "Shares":
         """The same shares anew, each over an engine that is made like this one's."""
-        other = Shares([it.twin() for it in self._engines if it is not None])
+        other = Shares([it.twin() for it in self._engines])
         other._homes = dict(self._homes)
         return other
 
@@ -337,21 +312,19 @@ class Shares:
 
     def _close(self, share: int) -> int:
         try:
-            engine = self._engines[share]
-            return engine.close() if engine is not None else 0
+            return self._engines[share].close() if self._engines[share] else 0
         except Lost:
             return 0
 
-    def _ask(self, share: int, ask: Callable[[Holder], Answer]) -> Answer:
+    def _ask(self, share: int, ask: Callable[[Any], Answer]) -> Answer:
         """The answer of a share, in its lane. Where its machine went away, another one is given what it held, and asked; a program that
         somebody ended is asked once more, since its session starts another one with the same documents."""
         moved, was_ended = 0, False
         while True:
             try:
-                engine = self._engines[share]
-                if engine is None:
-                    engine = self._engines[share] = self._made_again(share)
-                return ask(engine)
+                if self._engines[share] is None:
+                    self._engines[share] = self._made_again(share)
+                return ask(self._engines[share])
             except NoMachine:
                 raise
             except Lost as lost:
@@ -359,12 +332,12 @@ class Shares:
                 if self._another is None or moved > MOST_MOVES:
                     raise NoMachine(str(lost)) from lost
             except ProgramEnded as ended:
-                session = _session(self._engines[share])
-                if ended.status >= 0 or was_ended or session and session.is_interrupted:
+                engine = self._engines[share]
+                if ended.status >= 0 or was_ended or isinstance(engine, Session) and engine.is_interrupted:
                     raise
                 was_ended = True
 
-    def _made_again(self, share: int) -> Holder:
+    def _made_again(self, share: int) -> Any:
         """Another engine with what the share was given. Without a machine for it the share has to wait, and the call is over."""
         assert self._another
         try:
@@ -375,14 +348,10 @@ class Shares:
         self.moves += 1
         return engine
 
-    def _asked(self, ask: Callable[[Holder], Answer]) -> list[Future[Answer]]:
+    def _asked(self, ask: Callable[[Any], Answer]) -> list[Future[Answer]]:
         """Asks all shares at once, and waits for all of them. An interrupt ends their programs, which are started again when they are
         asked next."""
-
-        def begin(share: int, lane: ThreadPoolExecutor) -> Future[Answer]:
-            return lane.submit(lambda: self._ask(share, ask))
-
-        asked = [begin(share, lane) for share, lane in enumerate(self._lanes)]
+        asked = [lane.submit(self._ask, share, ask) for share, lane in enumerate(self._lanes)]
         try:
             wait(asked)
         except KeyboardInterrupt:
@@ -393,18 +362,14 @@ class Shares:
     def _give(self, method: str, name: str, *words: Any) -> None:
         """Gives all shares a list, say; the first fault that one of them tells is raised when all have answered. One whose machine went away
         gets it with its documents."""
-
-        def give(it: Holder) -> None:
-            getattr(it, method)(*words)
-
-        faults = [it.exception() for it in self._asked(give)]
+        faults = [it.exception() for it in self._asked(lambda it: getattr(it, method)(*words))]
         others = [it for it in faults if it and not isinstance(it, NoMachine)]
         if others:
             raise others[0]
         for kept in self._kept:
             kept.called(method, name, *words)
 
-    def _joined(self, path: str, ask: Callable[[Holder], list[Part]], parts_each: int = 1) -> list[Part]:
+    def _joined(self, path: str, ask: Callable[[Any], list[Part]], parts_each: int = 1) -> list[Part]:
         """The answers to a path one after the other, with so many parts for each element. A document that it names is in one share; the others' word
         that it isn't there doesn't count, and where one has it none is left out."""
         asked = self._asked(ask)
@@ -424,17 +389,6 @@ class Shares:
         return found
 
 
-def _session(engine: object) -> Session | None:
-    """An engine that is a session of this machine."""
-    return engine if isinstance(engine, Session) else None
-
-
-def _lines(reply: Reply) -> list[str]:
-    """The lines of a reply that has some."""
-    assert isinstance(reply, Found)
-    return list(reply.lines)
-
-
 def local_shares(count: int, program: Path | None = None) -> Shares:
     """So many programs on this machine."""
     from .engines import Loading
@@ -446,7 +400,7 @@ class RemoteSession:
     """A session on another machine, as an actor of Dask's `distributed`: the same calls, each awaited. Where the machine goes away, `Lost` is
     raised, also in the middle of a call."""
 
-    def __init__(self, client: Client, worker: str, program: bytes) -> None:
+    def __init__(self, client: Any, worker: str, program: bytes) -> None:
         """Makes one on the worker of that address, with the program, whose bytes are packed by zlib."""
         self._client = client
         self.worker = worker
@@ -518,7 +472,7 @@ def package_bytes() -> bytes:
     return out.getvalue()
 
 
-def workers_of(client: Client) -> list[str]:
+def workers_of(client: Any) -> list[str]:
     """The addresses of the workers that the scheduler knows now; none where the scheduler itself is away."""
     return sorted(client.scheduler_info()["workers"]) if client.status == "running" else []
 
@@ -542,18 +496,13 @@ def scheduled_shares(address: str, count: int | None, program: Path) -> Shares:
         # Workers that come later get it too. The method has another name in later versions.
         (getattr(client, "register_plugin", None) or client.register_worker_plugin)(UploadFile(str(package)))
     packed = zlib.compress(program.read_bytes())
+    engines: list[Any] = [RemoteSession(client, workers[it % len(workers)], packed) for it in range(count or len(workers))]
 
-    def on(worker: str) -> Holder:
-        # It passes all calls on by their names, which no type says.
-        return cast(Holder, RemoteSession(client, worker, packed))
-
-    engines: list[Holder | None] = [on(workers[it % len(workers)]) for it in range(count or len(workers))]
-
-    def another(share: int) -> Holder:
+    def another(share: int) -> RemoteSession:
         there = workers_of(client)
-        loads = {it: sum(1 for engine in engines if isinstance(engine, RemoteSession) and engine.worker == it) for it in there}
+        loads = {it: sum(1 for engine in engines if engine is not None and engine.worker == it) for it in there}
         if not loads:
             raise Lost()
-        return on(min(loads, key=lambda it: (loads[it], it)))
+        return RemoteSession(client, min(loads, key=lambda it: (loads[it], it)), packed)
 
     return Shares(engines, client.close, another)

@@ -68,7 +68,7 @@ def texts_of(element: etree._Element) -> Iterator[tuple[etree._Element, bool, st
 
 def put_text(node: etree._Element, text: str) -> None:
     """Puts a text, and what follows the node, in the place of the node."""
-    before, above = node.getprevious(), _parent(node)
+    before, above = node.getprevious(), node.getparent()
     text += node.tail or ""
     node.tail = None
     above.remove(node)
@@ -80,7 +80,7 @@ def put_text(node: etree._Element, text: str) -> None:
 
 def put_nodes(node: etree._Element, text: str, elements: list[etree._Element]) -> None:
     """Puts a text and elements, each with the text behind it, and what follows the node, in the place of the node."""
-    above = _parent(node)
+    above = node.getparent()
     if not elements:
         put_text(node, text)
         return
@@ -92,10 +92,3 @@ def put_nodes(node: etree._Element, text: str, elements: list[etree._Element]) -
         above.text = (above.text or "") + text
     elements[-1].tail = (elements[-1].tail or "") + (node.tail or "")
     above[place : place + 1] = elements
-
-
-def _parent(node: etree._Element) -> etree._Element:
-    """What a node stands in; the root stands in nothing, and is not asked for."""
-    above = node.getparent()
-    assert above is not None
-    return above

@@ -23,7 +23,7 @@ from ..calls import read_words
 from ..collection import Collection
 from ..commands import FAULT, answer_all, tell
 from ..lists import NoList
-from ..locating import Located, Locator
+from ..locating import Located
 from ..trees import Untaken
 from .application import body_of, in_turn, json_object
 from .desk import Desk
@@ -60,16 +60,17 @@ class Places:
         return Untaken(self.path(it.path), it.line, it.reason) if it.path == it.named else it
 
 
-class Placed(Locator):
+class Placed:
     """A locator that names files in the words of a call, but for those that stand in others."""
 
     def __init__(self, view: Collection, places: Places) -> None:
-        super().__init__(view.sources, view.rules, view.locator.kept)
+        self._locator = view.locator
+        self._sources = view.sources
         self._places = places
 
     def locate(self, element: Element) -> Located:
         """As `Locator.locate`."""
-        located, source = super().locate(element), self._sources.get(element.document)
+        located, source = self._locator.locate(element), self._sources.get(element.document)
         return replace(located, path=self._places.path(source.path)) if source and located.path == source.path else located
 
 
@@ -164,7 +165,7 @@ class Calls:
 
 def placed(view: Collection, places: Places) -> None:
     """Lets a collection name its files in the words of a call."""
-    view.locator = Placed(view, places)
+    view.locator = Placed(view, places)  # type: ignore[assignment]
     view.untaken = [places.untaken(it) for it in view.untaken]
 
 

@@ -1,3 +1,0 @@
-"""The types of what ftq_ask uses of Levenshtein."""
-
-def distance(a: str, b: str) -> int: ...

@@ -1,3 +1,0 @@
-"""The types of what ftq_ask uses of Whoosh."""
-
-def stopwords_for_language(language: str) -> frozenset[str]: ...
