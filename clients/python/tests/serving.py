@@ -90,6 +90,12 @@ class Server:
         """Ends it as an interrupt does; its exit status. Fails where it has told of a fault of its own."""
         assert self.process.stdout
         if self.process.poll() is None:
+            # An interrupt while the event loop is being made leaves a half-made one, of which Python tells.
+            with contextlib.suppress(OSError, http.client.HTTPException):
+                asked = http.client.HTTPConnection("127.0.0.1", self.port, timeout=20)
+                asked.request("GET", "/")
+                asked.getresponse().read()
+                asked.close()
             self.process.send_signal(signal.SIGINT)
         try:
             status = self.process.wait(60)
